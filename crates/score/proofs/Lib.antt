@@ -4,4 +4,5 @@ pub mod Within
 pub mod Split
 pub mod Names
 pub mod Lines
+pub mod Digits
 pub mod Examples

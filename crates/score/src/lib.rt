@@ -3,3 +3,4 @@ pub mod header;
 pub mod limits;
 pub mod pieces;
 pub mod reader;
+pub mod word;
