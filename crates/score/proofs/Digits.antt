@@ -62,7 +62,7 @@ unfolding followedBy
 followed number [] b = refl
 followed number (x ∷ a) b = followed _ a b
 
-and-true : (b : Bool) → b && true ≡ b
+pub and-true : (b : Bool) → b && true ≡ b
 and-true true = refl
 and-true false = refl
 

@@ -3,6 +3,8 @@ pub mod Order
 pub mod Within
 pub mod Split
 pub mod Names
-pub mod Lines
+pub mod FirstLine
 pub mod Digits
+pub mod Fields
+pub mod Rows
 pub mod Examples

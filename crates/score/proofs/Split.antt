@@ -63,6 +63,17 @@ reach-fits cut (x ∷ text) = go (eqb x cut) (reach-fits cut text)
     go true h = zero-le
     go false h = rw (on-first x (split cut text)) (suc-le-suc h)
 
+pub reach-at : (cut : ℕ) (text : List ℕ) → reach cut text < length text → getD text (reach cut text) 0 ≡ cut
+unfolding split
+reach-at cut [] h = absurd (omega arith)
+reach-at cut (x ∷ text) h = go (eqb x cut) refl (reach-at cut text) h
+  where
+    go : (b : Bool) → eqb x cut ≡ b → (reach cut text < length text → getD text (reach cut text) 0 ≡ cut)
+        → length (getD (cond b ([] ∷ split cut text) (onFirst x (split cut text))) 0 []) < suc (length text)
+        → getD (x ∷ text) (length (getD (cond b ([] ∷ split cut text) (onFirst x (split cut text))) 0 [])) 0 ≡ cut
+    go true e f h = eqb-true x cut e
+    go false e f h = let i = rw (on-first x (split cut text)) at h in rw (on-first x (split cut text)) (f (omega arith))
+
 -- the pieces from a place on, none past the text's end
 abbrev pub rest : ℕ → List ℕ → ℕ → List (List ℕ)
 rest cut text from = cond (leb from (length text)) (split cut (drop from text)) []

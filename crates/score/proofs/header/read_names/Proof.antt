@@ -3,7 +3,7 @@ use mathlib.Core.Path.{_≡_, refl, sym, _∙_}
 use native.Mathlib.Omega.{arith}
 use borrow.Author.Needs.{needs}
 use lib.Seq.{length-take-le}
-use Rattle.score.proofs.Lines.{no-lf, other-count, name-missing, headed}
+use Rattle.score.proofs.FirstLine.{no-lf, other-count, name-missing, headed}
 use borrow.Author.Needs.{needs}
 use lib.Seq.{length-take-le}
 use Rattle.score.proofs.header.read_names.Statement.{statement}

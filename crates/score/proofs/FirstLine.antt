@@ -18,7 +18,7 @@ lined-ended : (p q : List ℕ) (qs ps : List (List ℕ)) → ps ≡ q ∷ qs →
 lined-ended [] q qs ps e = rw e
 lined-ended (b ∷ p) q qs ps e = rw e
 
-lined-cut : (p text : List ℕ) → lined (p ∷ split lf text) ≡ ended p ∷ linesOf text
+pub lined-cut : (p text : List ℕ) → lined (p ∷ split lf text) ≡ ended p ∷ linesOf text
 unfolding linesOf
 lined-cut p text = lined-ended p _ _ (split lf text) (first-piece lf text)
 
