@@ -1,16 +1,16 @@
 -- The lines of a text, from the front: what the first LF ends is the first line, and the others are the lines of what follows.
 use mathlib.Core.Path.{_≡_, refl, sym, ap, _∙_}
 use mathlib.Core.List.{List, [], _∷_}
-use mathlib.Core.Bool.{true, false, _&&_}
+use mathlib.Core.Bool.{Bool, true, false, _&&_, cond}
 use Prim.Native.Nat.{ℕ, suc, _+_, _≤_, _<_}
 use native.Mathlib.Numerals.{add-one}
 use native.Mathlib.Omega.{arith}
 use borrow.Author.Tests.{lt-ltb, le-ltb, eq-eqb, ne-eqb}
-use lib.Dec.{ltb}
+use lib.Dec.{ltb, eqb}
 use lib.ListN.{length, getD, take, drop, drop-of-length-le}
 use lib.Seq.{take-all, drop-cons}
 use Rattle.score.specs.declared.header.Header.{Header}
-use Rattle.score.specs.Text.{lf, split, Line, ended, unended, lined, linesOf, firstOf, restOf, fieldsOf, columnsOf, eachBelow, holdsNames}
+use Rattle.score.specs.Text.{lf, onFirst, split, Line, ended, unended, lined, linesOf, firstOf, restOf, fieldsOf, columnsOf, eachBelow, holdsNames}
 use Rattle.score.specs.Inner.{Headed}
 use Rattle.score.proofs.Split.{reach, after, first-piece}
 
@@ -38,6 +38,28 @@ module _ (text : List ℕ) where
   open-line h =
       ap (λ (ps : List (List ℕ)). firstOf (lined ps)) (first-piece lf text)
       ∙ rw (take-all (reach lf text) text h, drop-of-length-le text h) (lined-open text)
+
+-- ---- whether there is a line
+lined-some : (b : ℕ) (ps : List (List ℕ)) → lined (onFirst b ps) ≡ firstOf (lined (onFirst b ps)) ∷ restOf (lined (onFirst b ps))
+lined-some b [] = refl
+lined-some b ([] ∷ []) = refl
+lined-some b ((x ∷ q) ∷ []) = refl
+lined-some b ([] ∷ r ∷ qs) = refl
+lined-some b ((x ∷ q) ∷ r ∷ qs) = refl
+
+pub some-line : (text : List ℕ) → 0 < length text → linesOf text ≡ firstOf (linesOf text) ∷ restOf (linesOf text)
+unfolding linesOf split
+some-line [] h = absurd (omega arith)
+some-line (b ∷ text) h = go (eqb b lf)
+  where
+    go : (t : Bool) → lined (cond t ([] ∷ split lf text) (onFirst b (split lf text)))
+        ≡ firstOf (lined (cond t ([] ∷ split lf text) (onFirst b (split lf text)))) ∷ restOf (lined (cond t ([] ∷ split lf text) (onFirst b (split lf text))))
+    go true = rw (lined-cut [] text)
+    go false = lined-some b (split lf text)
+
+pub no-line : linesOf [] ≡ []
+unfolding linesOf split
+no-line = refl
 
 -- ---- the line of names
 module _ (names : List (List ℕ)) (text : List ℕ) (header : Header) where

@@ -5,15 +5,16 @@ use mathlib.Core.List.{List, [], _∷_, _++_, append-nil}
 use Prim.Native.Nat.{ℕ, zero, suc, _+_, _-_, _*_, _≤_, _<_}
 use native.Mathlib.Numerals.{add-one}
 use native.Mathlib.Omega.{arith}
-use borrow.Author.Tests.{ltb-true}
-use lib.Dec.{ltb}
-use lib.ListN.{length, getD, take, drop, set, length-set, drop-of-length-le}
+use borrow.Author.Tests.{ltb-true, ne-eqb}
+use lib.Dec.{ltb, eqb}
+use lib.ListN.{length, getD, take, drop, set, length-set, length-drop, drop-of-length-le}
 use lib.Seq.{drop-cons, drop-drop, getD-take, length-take-le, take-suc-set, append-snoc, take-all}
-use Rattle.score.specs.Text.{Line, contents, linesOf, firstOf, fieldsOf, wordDigits, isWord, wordOf, eachBelow, holdsWords, rowOf}
+use Rattle.score.specs.Text.{Line, contents, linesOf, firstOf, restOf, fieldsOf, wordDigits, isWord, wordOf, eachBelow, holdsWords, rowOf}
 use Rattle.score.specs.Limits.{rowWithin}
-use Rattle.score.specs.Numbers.{limitNumber, valueNumber}
-use Rattle.score.specs.Reading.{lineNumber}
+use Rattle.score.specs.Numbers.{success, refused, limitNumber, valueNumber}
+use Rattle.score.specs.Reading.{lineNumber, testLines}
 use Rattle.score.specs.Inner.{lineAt, Columns}
+use Rattle.score.proofs.FirstLine.{some-line, no-line}
 use Rattle.score.proofs.Digits.{both, word-fits}
 use Rattle.score.proofs.Fields.{fieldBytes, Right, right}
 
@@ -92,3 +93,44 @@ module _ (count : ℕ) (columns : List ℕ) (line : Line) where
   pub number-by-limit : holdsWords count line ≡ true → (limited : Bool) → limited ≡ true → lineNumber count columns limited line ≡ cond (rowWithin (rowOf columns line)) 0 limitNumber
   unfolding lineNumber
   number-by-limit e limited l = rw (e, l)
+
+  value : (limited : Bool) → lineNumber count columns limited line ≡ 0 → holdsWords count line ≡ true
+  value limited e = go (holdsWords count line) refl
+    where
+      go : (b : Bool) → holdsWords count line ≡ b → b ≡ true
+      go true h = refl
+      go false h = let n = sym (no-value limited h) ∙ e in absurd (omega arith)
+
+-- ---- lines, one after the other
+pub record Tested (count : ℕ) (columns : List ℕ) (limited : Bool) (text : List ℕ) (next from at : ℕ) : Type 0 where
+  pub inside : from ≤ length text
+  pub counted : at ≤ from
+  pub left : testLines count columns limited 0 (linesOf (drop next text)) ≡ testLines count columns limited at (linesOf (drop from text))
+
+module _ (count : ℕ) (columns : List ℕ) (limited : Bool) (text : List ℕ) (from at : ℕ) where
+  first-tested : from < length text → testLines count columns limited at (linesOf (drop from text))
+      ≡ cond (eqb (lineNumber count columns limited (lineAt text from)) 0) (testLines count columns limited (suc at) (restOf (linesOf (drop from text)))) (refused (lineNumber count columns limited (lineAt text from)) at)
+  unfolding testLines
+  first-tested h = ap (testLines count columns limited at) (some-line (drop from text) (omega (arith, length-drop from text)))
+
+  pub none-left : length text ≤ from → testLines count columns limited at (linesOf (drop from text)) ≡ success at
+  unfolding testLines
+  none-left h = rw (drop-of-length-le text h, no-line)
+
+  pub line-refused : from < length text → (lineNumber count columns limited (lineAt text from) ≡ 0 → ⊥)
+      → testLines count columns limited at (linesOf (drop from text)) ≡ refused (lineNumber count columns limited (lineAt text from)) at
+  line-refused h n = first-tested h ∙ rw (ne-eqb (lineNumber count columns limited (lineAt text from)) 0 n)
+
+  module _ (some : 0 < count) (n : lineNumber count columns limited (lineAt text from) ≡ 0) where
+    line-right : Right count (drop from text)
+    line-right = right-line count (drop from text) some (value count columns (lineAt text from) limited n)
+
+    pub next-line : restOf (linesOf (drop from text)) ≡ linesOf (drop (from + count * fieldBytes) text)
+    next-line = line-right .rest ∙ ap linesOf (drop-drop (count * fieldBytes) from text)
+
+    pub line-fits : from ≤ length text → from + count * fieldBytes ≤ length text
+    line-fits i = omega (arith, line-right .fits, length-drop from text)
+
+    pub line-passes : from < length text
+        → testLines count columns limited at (linesOf (drop from text)) ≡ testLines count columns limited (at + 1) (linesOf (drop (from + count * fieldBytes) text))
+    line-passes h = first-tested h ∙ rw (n, next-line, add-one)
