@@ -7,4 +7,5 @@ pub mod FirstLine
 pub mod Digits
 pub mod Fields
 pub mod Rows
+pub mod Storing
 pub mod Examples

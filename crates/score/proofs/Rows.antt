@@ -94,7 +94,7 @@ module _ (count : ℕ) (columns : List ℕ) (line : Line) where
   unfolding lineNumber
   number-by-limit e limited l = rw (e, l)
 
-  value : (limited : Bool) → lineNumber count columns limited line ≡ 0 → holdsWords count line ≡ true
+  pub value : (limited : Bool) → lineNumber count columns limited line ≡ 0 → holdsWords count line ≡ true
   value limited e = go (holdsWords count line) refl
     where
       go : (b : Bool) → holdsWords count line ≡ b → b ≡ true
@@ -108,7 +108,7 @@ pub record Tested (count : ℕ) (columns : List ℕ) (limited : Bool) (text : Li
   pub left : testLines count columns limited 0 (linesOf (drop next text)) ≡ testLines count columns limited at (linesOf (drop from text))
 
 module _ (count : ℕ) (columns : List ℕ) (limited : Bool) (text : List ℕ) (from at : ℕ) where
-  first-tested : from < length text → testLines count columns limited at (linesOf (drop from text))
+  pub first-tested : from < length text → testLines count columns limited at (linesOf (drop from text))
       ≡ cond (eqb (lineNumber count columns limited (lineAt text from)) 0) (testLines count columns limited (suc at) (restOf (linesOf (drop from text)))) (refused (lineNumber count columns limited (lineAt text from)) at)
   unfolding testLines
   first-tested h = ap (testLines count columns limited at) (some-line (drop from text) (omega (arith, length-drop from text)))
