@@ -8,4 +8,5 @@ pub mod Digits
 pub mod Fields
 pub mod Rows
 pub mod Storing
+pub mod Settling
 pub mod Examples

@@ -24,7 +24,7 @@ use Rattle.score.proofs.Rows.{value, first-tested, none-left, next-line
 same-count : (a b : ℕ) → success a ≡ success b → a ≡ b
 same-count a b e = cc
 
-not-both : (a b n : ℕ) → refused a b ≡ success n → ⊥
+pub not-both : (a b n : ℕ) → refused a b ≡ success n → ⊥
 not-both a b n e = let z : _≡_ {A = ℕ} 0 1 = cc in omega arith
 
 -- each line counts
