@@ -32,7 +32,7 @@ digit-value b e = go (between 48 57 b) (between 65 70 b) (between 97 102 b) (ins
     go false false false f g h e = absurd (false≢true e)
 
 -- ---- a run of bytes
-abbrev pub run : ℕ → List ℕ → ℕ → ℕ → List ℕ
+abbrev run : ℕ → List ℕ → ℕ → ℕ → List ℕ
 run zero text at k = []
 run (suc n) text at k = getD text (at + k) 0 ∷ run n text at (suc k)
 
@@ -40,7 +40,7 @@ run-at : (n : ℕ) (text : List ℕ) (at k : ℕ) → at + k + n ≤ length text
 run-at zero text at k h = refl
 run-at (suc n) text at k h = rw (drop-cons text (at + k) 0 (omega arith), sym (add-suc at k)) (ap (λ (r : List ℕ). getD text (at + k) 0 ∷ r) (run-at n text at (suc k) (omega arith)))
 
-pub is-run : (n : ℕ) (text : List ℕ) (at : ℕ) → at + n ≤ length text → take n (drop at text) ≡ run n text at 0
+is-run : (n : ℕ) (text : List ℕ) (at : ℕ) → at + n ≤ length text → take n (drop at text) ≡ run n text at 0
 is-run n text at h = ap (λ (k : ℕ). take n (drop k text)) (sym (add-zero at)) ∙ run-at n text at 0 (omega arith)
 
 -- ---- a word and its halves

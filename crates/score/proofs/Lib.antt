@@ -9,4 +9,5 @@ pub mod Fields
 pub mod Rows
 pub mod Storing
 pub mod Settling
+pub mod Accepted
 pub mod Examples

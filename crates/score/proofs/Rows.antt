@@ -18,7 +18,7 @@ use Rattle.score.proofs.FirstLine.{some-line, no-line}
 use Rattle.score.proofs.Digits.{both, word-fits}
 use Rattle.score.proofs.Fields.{fieldBytes, Right, right}
 
-pub right-line : (count : ℕ) (text : List ℕ) → 0 < count → holdsWords count (firstOf (linesOf text)) ≡ true → Right count text
+right-line : (count : ℕ) (text : List ℕ) → 0 < count → holdsWords count (firstOf (linesOf text)) ≡ true → Right count text
 right-line zero text h e = absurd (omega arith)
 right-line (suc count) text h e = right count text e
 
