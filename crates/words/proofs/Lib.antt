@@ -1,2 +1,5 @@
 -- What the proofs of this crate share.
 pub mod Floats
+pub mod WholeParts
+pub mod Rounding
+pub mod Signs
