@@ -3,3 +3,4 @@ pub mod Floats
 pub mod WholeParts
 pub mod Rounding
 pub mod Signs
+pub mod Parts

@@ -1,0 +1,3 @@
+pub mod Utils
+pub mod Units
+pub mod Interpolator
