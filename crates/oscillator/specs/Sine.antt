@@ -1,11 +1,16 @@
--- The source's `resources/sine.rs`: a period of 512 entries and a quarter more.
+-- The source's `resources/sine.rs`, a period of 512 entries and a quarter more, and `sine` of `sine_oscillator.rs`.
 use mathlib.Core.List.{List, [], _∷_}
 use lib.Ieee.{Float, neg}
 use Rattle.words.specs.Binary32.{decimal}
+use Rattle.utils.specs.Utils.{interpolateWrap}
 
 -- LUT_SINE_SIZE, the number of entries of a period.
 abbrev pub lutSineSize : Float
 lutSineSize = decimal 512 0
+
+-- `sine`: a table of a period and a quarter, read at a phase.
+abbrev pub sineOf : List Float → Float → Float
+sineOf table phase = interpolateWrap table phase lutSineSize
 
 -- LUT_SINE.
 unfoldable pub lutSine : List Float
