@@ -1,6 +1,7 @@
 -- What the proofs of this crate share.
 pub mod Floats
 pub mod WholeParts
+pub mod WholeWords
 pub mod Rounding
 pub mod Signs
 pub mod Parts
