@@ -5,3 +5,4 @@ pub mod WholeWords
 pub mod Rounding
 pub mod Signs
 pub mod Parts
+pub mod Values

@@ -1,16 +1,16 @@
 -- A signed number by its sign, and a float with the other sign.
 use mathlib.Core.Path.{_≡_, refl, sym, ap, _∙_, subst}
-use mathlib.Core.Bool.{Bool, true, false, cond, true≢false, false≢true}
+use mathlib.Core.Bool.{Bool, true, false, cond, true≢false}
 use Prim.Native.Nat.{ℕ, zero, suc, _+_, _*_, _^_, _≤_, _<_}
 use native.Mathlib.Omega.{arith}
 use borrow.Author.Tests.{ltb-true}
 use lib.Dec.{T, ltb, lt→ltb, le→leb}
-use lib.IntN.{ℤ, pos, negsuc, negℤ, natAbs, _-ℤ_, +ℤ-idl}
-use lib.Signed.{ltZ, nonNeg}
+use lib.IntN.{ℤ, pos, negsuc, negℤ, _-ℤ_, +ℤ-idl}
+use lib.Signed.{ltZ}
 use mir.Syntax.{w32, w64}
-use mir.Val.{Fits, SFits, toZ, ofZ}
-use mir.Facts.{toZ-ofZ, sfits-widen, fits-natAbs}
-use lib.Ieee.{Float, fin, inf, Format, binary32, low, emax, prec, odd, units, round, neg, ofInt, inFloat}
+use mir.Val.{SFits, toZ, ofZ}
+use mir.Facts.{toZ-ofZ, sfits-widen}
+use lib.Ieee.{Float, Format, binary32, low, emax, prec, odd, units, round, neg, ofInt, inFloat}
 use Rattle.words.proofs.WholeParts.{neg-mag}
 
 -- ---- the sign of an i32

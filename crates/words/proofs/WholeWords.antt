@@ -2,11 +2,11 @@
 use mathlib.Core.Path.{_≡_, refl, sym, ap, _∙_, subst}
 use mathlib.Core.Logic.{_⊎_, inl, inr}
 use mathlib.Core.Bool.{Bool, true, false, cond, true≢false, false≢true}
-use Prim.Native.Nat.{ℕ, zero, suc, _+_, _-_, _*_, _/_, _%_, _^_, _≤_, _<_, min}
-use native.Mathlib.Nat.{min-eq-left, min-eq-right, min-le-left, zero-min, mod-lt, mod-eq-of-lt, div-lt-iff-lt-mul, le-div-iff-mul-le, mul-assoc, mul-comm, mul-le-mul-left, mul-le-mul-right, mul-le-mul, div-eq-of-lt, le-trans, lt-trans, le-min, eq-or-lt-of-le}
+use Prim.Native.Nat.{ℕ, suc, _+_, _-_, _*_, _/_, _%_, _^_, _≤_, _<_, min}
+use native.Mathlib.Nat.{min-eq-left, min-le-left, zero-min, mod-lt, mod-eq-of-lt, div-lt-iff-lt-mul, le-div-iff-mul-le, mul-assoc, mul-le-mul-left, mul-le-mul-right, mul-le-mul, div-eq-of-lt, le-trans, lt-trans, le-min, eq-or-lt-of-le}
 use native.Mathlib.Omega.{arith}
 use borrow.Author.Tests.{ltb-true, ltb-false, leb-true, leb-false, lt-leb, ne-eqb}
-use lib.Dec.{T, leb, eqb, ltb, lit<, lit≤}
+use lib.Dec.{leb, eqb, lit<, lit≤}
 use lib.Pow.{pow-add, pow-pos, pow-mono, pow-lt}
 use lib.IntN.{pos, negsuc, negℤ}
 use lib.Ieee.{Float, nan, inf, fin, binary32, up, down, lt, neg, odd, ofFields, ofBits, toUnsigned, toSigned}
@@ -23,6 +23,14 @@ whole-at w (inf t) a c p v = absurd v
 whole-at w (fin t m e) a c p v =
     ap (λ (b : Bool). cond b 0 (min (m * up e / down e) (2 ^ w - 1))) (v .0)
     ∙ ap (λ (n : ℕ). min n (2 ^ w - 1)) (div-same (m * up e) (down e) a c (down-pos e) p (v .1))
+
+pub signed-at : (h : ℕ) (x : Float) (a c : ℕ) → 0 < c → HasValue x false a c → toSigned h x ≡ pos (min (a / c) (2 ^ h - 1))
+unfolding toSigned
+signed-at h nan a c p v = absurd v
+signed-at h (inf t) a c p v = absurd v
+signed-at h (fin t m e) a c p v =
+    ap (λ (b : Bool). cond b (negℤ (pos (min (m * up e / down e) (2 ^ h)))) (pos (min (m * up e / down e) (2 ^ h - 1)))) (v .0)
+    ∙ ap (λ (n : ℕ). pos (min n (2 ^ h - 1))) (div-same (m * up e) (down e) a c (down-pos e) p (v .1))
 
 -- ---- a word from 2 ^ 23 on, below an infinity's: a normal float above 0
 normal-fields : (x t : ℕ) → suc x < 255 → ofFields binary32 false (suc x) t ≡ odd 24 false (8388608 + t) x 149

@@ -1,14 +1,13 @@
 -- `words::whole_i32` meets its contract.
 use borrow.Author.Needs.{needs}
-use mathlib.Core.Path.{_≡_, sym, ap, _∙_, subst}
-use Prim.Native.Nat.{ℕ, min, _<_, _≤_}
+use mathlib.Core.Path.{_≡_, sym, ap, _∙_}
+use Prim.Native.Nat.{ℕ, min}
 use native.Mathlib.Nat.{min-eq-left, min-eq-right}
 use native.Mathlib.Omega.{arith}
-use lib.IntN.{ℤ, pos, negℤ, +ℤ-idl}
-use lib.Ieee.{Float, ofBits, neg, toUnsigned}
+use lib.IntN.{pos, negℤ, +ℤ-idl}
+use lib.Ieee.{ofBits, neg, toUnsigned}
 use mir.Syntax.{w32}
-use mir.Val.{SFits, toZ}
-use mir.Facts.{toZ-pos, toZ-ofZ}
+use mir.Facts.{toZ-pos}
 use Rattle.words.proofs.WholeParts.{signed-up, signed-down, neg-mag, taken-off}
 use Rattle.words.proofs.whole_i32.Statement.{statement}
 use Rattle.words.proofs.whole_i32.Tie as tie
