@@ -15,5 +15,5 @@ fn main() {
         std::process::exit(1);
     }
     println!("cargo:rustc-link-search=native={}", folder.display());
-    println!("cargo:rustc-link-lib=static=retake_c");
+    println!("cargo:rustc-link-lib=static:-bundle=retake_c");
 }

@@ -19,18 +19,21 @@
 //! let mut rows = [0; 3 * Row::WORDS];
 //! assert_eq!(read_score(text, &mut rows), Ok(3));
 //!
-//! // A bank of 192 sawtooth waves.
-//! let bank: Vec<i16> = (0..BANK).map(|i| (i % 132) as i16 * 200).collect();
+//! // A bank of 192 ramps, louder from wave to wave.
+//! let bank: Vec<i16> = (0..BANK as i16).map(|i| (i % 132 - 66) * (i / 132 + 1)).collect();
 //! let setup = Setup { instrument: Instrument::Wavetable, rate: 48_000, frames: 24, bank: &bank };
 //! let mut take = Take::new(3, setup.frames);
 //! assert_eq!(render(&setup, &rows, &mut take), Ok(Done { rows: 3, held: 0 }));
 //!
 //! // Another timbre in row 1: row 2 restarts, so nothing else is rendered.
+//! let before = take.clone();
 //! let row = Row { note: 60.0, timbre: 1.0, morph: 0.0, harmonics: 0.0, restart: false };
 //! assert_eq!(edit(&setup, &mut rows, 1, row, &mut take), Ok(Done { rows: 1, held: 0 }));
+//! assert!(take.out[24..48] != before.out[24..48]);
+//! assert_eq!(take.out[48..], before.out[48..]);
 //!
-//! let first_sample = f32::from_bits(take.out[0]);
-//! assert!(first_sample.is_finite());
+//! let sample = f32::from_bits(take.out[47]);
+//! assert!(sample.abs() < 1.0);
 //! ```
 
 use std::fmt;

@@ -36,8 +36,10 @@ fn an_edited_take_is_a_fresh_one() {
         let row = Row { morph: 0.75, ..ROW };
         let done = edit(&setup, &mut score, 7, row, &mut take).unwrap();
         assert_eq!(score[35..40], row.words());
-        assert_eq!(done.rows, 33);
-        assert_eq!(take.out[..7 * 24], before.out[..7 * 24]);
+        let (first, end) = (7 * 24, (7 + done.rows as usize) * 24);
+        assert!(take.out[first..end] != before.out[first..end]);
+        assert_eq!(take.out[..first], before.out[..first]);
+        assert_eq!(take.out[end..], before.out[end..]);
 
         let mut fresh = Take::new(40, setup.frames);
         render(&setup, &score, &mut fresh).unwrap();

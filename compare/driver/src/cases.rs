@@ -103,7 +103,7 @@ pub fn rows(random: &mut Random, count: usize) -> Vec<u32> {
     let character = random.below(8);
     let adverse = random.once_in(2);
     let repeat = random.pick(&[1, 1, 4, count]);
-    let restarts = random.pick(&[2, 8, 64, usize::MAX]);
+    let restarts = if character < 2 { usize::MAX } else { random.pick(&[2, 8, 64, usize::MAX]) };
     let mut rows = Vec::new();
     let mut values = [0; 4];
     for k in 0..count {
@@ -111,11 +111,12 @@ pub fn rows(random: &mut Random, count: usize) -> Vec<u32> {
             values = std::array::from_fn(|name| value(random, name, adverse));
         }
         match character {
-            // A path that leaves the circle: the note swings, the radius stays large, the layer is high.
+            // A path that leaves the circle: a high note draws it out to an ellipse, low notes then walk
+            // it with a large radius, on high layers.
             0 => {
-                values[0] = (if k % 2 == 0 { random.unit() * 20.0 } else { 70.0 + random.unit() * 20.0 }).to_bits();
+                values[0] = (if k % 3 == 0 { 100.0 + random.unit() * 20.0 } else { random.unit() * 60.0 }).to_bits();
                 values[1] = 1f32.to_bits();
-                values[3] = (1.0 - random.unit() * 0.3).to_bits();
+                values[3] = (0.5 + random.unit() * 0.5).to_bits();
             }
             // A z that climbs to its top.
             1 => values[3] = 1f32.to_bits(),
@@ -125,6 +126,18 @@ pub fn rows(random: &mut Random, count: usize) -> Vec<u32> {
         rows.push(u32::from(random.once_in(restarts)));
     }
     rows
+}
+
+/// Rows of a usual score: each value anywhere in the middle of its limits, a restart every `restarts` rows.
+pub fn usual_rows(random: &mut Random, count: usize, restarts: usize) -> Vec<u32> {
+    (0..count)
+        .flat_map(|k| {
+            let mut unit = || (random.unit() * 0.85).to_bits();
+            let [timbre, morph, harmonics] = [unit(), unit(), unit()];
+            let note = (24.0 + random.unit() * 72.0).to_bits();
+            [note, timbre, morph, harmonics, u32::from(k % restarts == restarts - 1)]
+        })
+        .collect()
 }
 
 /// One row within its limits.

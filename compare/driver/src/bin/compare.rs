@@ -399,14 +399,12 @@ fn facts(published: &[i16], random: &mut Random, tally: &mut Tally) {
         model_is_original(&case, tally);
     }
 
-    // An edit that does not fade.
-    let mut case = plain(0, 24, cases::rows(random, 4096));
-    case.rows.chunks_mut(ROW_WORDS).for_each(|row| row[4] = 0);
+    // An edit that never fades: pre x sinks to a subnormal and stays there.
+    let case = plain(0, 24, steady(4096, [0x4270_0000, 0, 0, 0, 0]));
     let mut take = case.junk_take(random);
     library::render(&case.setup(), &case.rows, &mut take);
-    let mut rows = case.rows.clone();
-    let changed = std::array::from_fn(|i| if i == 1 { 0x3f12_3456 } else { rows[12 * ROW_WORDS + i] });
-    let answer = library::edit(&case.setup(), &mut rows, 12, changed, &mut take);
+    let changed = [0x4270_0000, 0x3f00_0000, 0, 0, 0];
+    let answer = library::edit(&case.setup(), &mut case.rows.clone(), 12, changed, &mut take);
     same("an edit that never fades", &case, answer, Answer::Done(4084, 0));
 
     // Kept words can stay subnormal.
@@ -452,7 +450,7 @@ fn main() {
 
     facts(&published, random, &mut tally);
     for _ in 0..1500 * scale {
-        model_is_original(&Case::random(random, &published, 60), &mut tally);
+        model_is_original(&Case::random(random, &published, 90), &mut tally);
     }
     for _ in 0..20_000 * scale {
         let case = Case::random(random, &published, 1);
