@@ -363,6 +363,31 @@ fn steady(count: usize, row: [u32; ROW_WORDS]) -> Vec<u32> {
     (0..count).flat_map(|_| row).collect()
 }
 
+/// The smallest scores found in whose last row the original panics: instrument, frames, `held`, rows.
+fn smallest_holds() -> [(u32, u32, u64, Vec<u32>); 4] {
+    const ONE: u32 = 0x3f80_0000;
+    const NOTE_120: u32 = 0x42f0_0000;
+    let climbing = [NOTE_120, 0, 0, ONE, 0];
+    let map = [
+        [NOTE_120, ONE, ONE, ONE, 0],
+        [NOTE_120, ONE, ONE, ONE, 0],
+        [NOTE_120, ONE, 0x3f00_0000, ONE, 0],
+        [0, ONE, 0, ONE, 0],
+    ];
+    let bank = [
+        [NOTE_120, ONE, 0x3f00_0000, 0x3f20_0000, 0],
+        [0x41a0_0000, ONE, ONE, 0x3f20_0000, 0],
+        [NOTE_120, ONE, 0x3f00_0000, 0x3f20_0000, 0],
+        [0x4248_0000, ONE, ONE, 0x3f40_0000, 0],
+    ];
+    [
+        (0, 78, 7, steady(54, climbing)),
+        (0, 10, 10, steady(65, climbing)),
+        (2, 1, 1, map.concat()),
+        (1, 2, 1, bank.concat()),
+    ]
+}
+
 /// Known facts about single scores, on the model, the original and the library.
 fn facts(published: &[i16], random: &mut Random, tally: &mut Tally) {
     let plain = |instrument, frames, rows| Case {
@@ -379,6 +404,14 @@ fn facts(published: &[i16], random: &mut Random, tally: &mut Tally) {
     let held: Vec<u64> = rows.iter().map(|r| r.block.held).collect();
     same("held of the last rows", &case, &held[52..], &[0, 49]);
     rendering(&case, case.junk_take(random), tally);
+
+    for (instrument, frames, held, rows) in smallest_holds() {
+        let case = Case { rate: 32_000, ..plain(instrument, frames, rows) };
+        let rows = model_is_original(&case, tally);
+        let before: u64 = rows[..rows.len() - 1].iter().map(|r| r.block.held).sum();
+        same("held before and in the last row", &case, [before, rows[rows.len() - 1].block.held], [0, held]);
+        rendering(&case, case.junk_take(random), tally);
+    }
 
     // Edits that the next row's state does not see.
     let note = steady(9, [0x4270_0000, 0, 0, 0, 0]);
