@@ -22,10 +22,10 @@ def x_of(ratio):
 def label(measurement):
     words = measurement.split()
     if words[0] == "read":
-        return "read the text of 4,096 rows"
+        return "reading the text"
     if words[0] == "render":
-        return f"render 4,096 rows, {VOICES[words[1]]}"
-    return f"edit, {words[-1]} rows, {VOICES[words[1]]}"
+        return f"{VOICES[words[1]]}, {words[2]} bank"
+    return f"edit of {words[-1]} rows, {VOICES[words[1]]}"
 
 
 def bar(index, row):
@@ -46,7 +46,7 @@ def chart(rows):
         f'<svg xmlns="http://www.w3.org/2000/svg" width="{LEFT + WIDTH + 90}" height="{bottom + 34}" '
         'font-family="sans-serif" font-size="12">',
         '<rect width="100%" height="100%" fill="white"/>',
-        f'<text x="{LEFT}" y="20" font-size="14">Time over the original\'s whole rendering (less is faster)</text>',
+        f'<text x="{LEFT}" y="20" font-size="14">4,096 rows of 24 frames: time over the original\'s whole rendering (less is faster)</text>',
     ]
     for tick in (1e-4, 1e-3, 1e-2, 1e-1, 1.0):
         x = x_of(tick)

@@ -103,16 +103,8 @@ impl<'a> Original<'a> {
     }
 
     /// `render` of one row into samples. It panics where the original does.
-    pub fn render_into(&mut self, row: &[u32], out: &mut [f32], aux: &mut [f32]) {
-        let p = Parameters::of_row(row);
-        let parameters = EngineParameters {
-            note: p.note,
-            timbre: p.timbre,
-            morph: p.morph,
-            harmonics: p.harmonics,
-            a0_normalized: a0(self.setup.rate),
-            ..EngineParameters::default()
-        };
+    fn render_into(&mut self, row: &[u32], out: &mut [f32], aux: &mut [f32]) {
+        let parameters = parameters(self.setup.rate, row);
         match &mut self.voice {
             Voice::Wavetable(engine) => engine.render(&parameters, out, aux, &mut false),
             Voice::Terrain(engine) => engine.render(&parameters, out, aux, &mut false),
@@ -126,6 +118,18 @@ impl<'a> Original<'a> {
         catch_unwind(AssertUnwindSafe(|| self.render_into(row, &mut out, &mut aux))).ok()?;
         let words = |samples: Vec<f32>| samples.into_iter().map(word).collect();
         Some(Rendered { out: words(out), aux: words(aux), kept: self.kept() })
+    }
+}
+
+fn parameters(rate: u32, row: &[u32]) -> EngineParameters {
+    let p = Parameters::of_row(row);
+    EngineParameters {
+        note: p.note,
+        timbre: p.timbre,
+        morph: p.morph,
+        harmonics: p.harmonics,
+        a0_normalized: a0(rate),
+        ..EngineParameters::default()
     }
 }
 
@@ -145,15 +149,54 @@ pub fn render(setup: Setup, rows: &[u32]) -> Vec<Rendered> {
     rendered
 }
 
-/// A whole score into samples, as a host would play it: for the benchmark.
-pub fn play(setup: Setup, rows: &[u32], out: &mut [f32], aux: &mut [f32]) {
-    let frames = setup.frames as usize;
-    let mut original = Original::new(setup);
-    for (k, row) in rows.chunks(ROW_WORDS).enumerate() {
-        if row[4] == 1 {
-            original.init();
-        }
-        let at = k * frames..(k + 1) * frames;
-        original.render_into(row, &mut out[at.clone()], &mut aux[at]);
+/// A whole score into samples, for the benchmark.
+pub fn play<'a>(setup: Setup<'a>, rows: &[u32], out: &mut [f32], aux: &mut [f32]) {
+    let rate = setup.rate as f32;
+    let bank = setup.bank.try_into().expect("a whole bank");
+    if setup.instrument == 0 {
+        let mut engine = WavetableEngine::new();
+        engine.set_wavetables(bank);
+        play_rows(engine, |engine| engine.init(rate), setup, rows, out, aux);
+    } else {
+        // SAFETY: as in `Original::new`.
+        unsafe { WAV_INTEGRATED_WAVES.lend(bank) };
+        let engine = WaveTerrainEngine::new(setup.frames as usize);
+        let map = setup.map.try_into().ok();
+        let start = |engine: &mut WaveTerrainEngine<'a>| {
+            engine.init(rate);
+            engine.set_user_terrain(map);
+        };
+        play_rows(engine, start, setup, rows, out, aux);
     }
+}
+
+fn play_rows<E: Engine>(
+    mut engine: E,
+    start: impl Fn(&mut E),
+    setup: Setup,
+    rows: &[u32],
+    out: &mut [f32],
+    aux: &mut [f32],
+) {
+    let frames = setup.frames as usize;
+    start(&mut engine);
+    let samples = out.chunks_mut(frames).zip(aux.chunks_mut(frames));
+    for (row, (out, aux)) in rows.chunks(ROW_WORDS).zip(samples) {
+        if row[4] == 1 {
+            start(&mut engine);
+        }
+        called(&mut engine).render(&parameters(setup.rate, row), out, aux, &mut false);
+    }
+}
+
+/// The engine as the benchmark calls it: by its type.
+#[cfg(not(feature = "trait-object"))]
+fn called<E: Engine>(engine: &mut E) -> &mut E {
+    engine
+}
+
+/// The engine as the benchmark calls it: as a trait object.
+#[cfg(feature = "trait-object")]
+fn called<'e, E: Engine + 'e>(engine: &'e mut E) -> &'e mut (dyn Engine + 'e) {
+    std::hint::black_box(engine)
 }

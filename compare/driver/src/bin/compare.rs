@@ -6,6 +6,7 @@
 //! difference is printed with its input and ends the run.
 
 use std::collections::BTreeMap;
+use std::path::Path;
 use std::process::{Command, exit};
 
 use driver::cases::{self, Case};
@@ -314,24 +315,22 @@ fn texts(random: &mut Random, tally: &mut Tally) {
     }
 }
 
-/// The program on random files, where it is built.
-fn programs(random: &mut Random, published: &[i16], tally: &mut Tally) {
-    let binary = std::env::var("RETAKE_PROGRAM").unwrap_or_default();
-    if binary.is_empty() {
-        return;
-    }
+/// Random files for the program: score, edits, bank.
+fn random_files(random: &mut Random, published: &[i16]) -> [(&'static str, Option<Vec<u8>>); 3] {
     let mut score = random_text(random);
-    let edits: Vec<u32> = (0..random.pick(&[0, 1, 3, 8, 32, 33]))
-        .flat_map(|_| {
-            let row = cases::row(random);
-            let place = random.below(14) as u32;
-            row.into_iter().chain([if random.once_in(20) { u32::MAX } else { place }]).collect::<Vec<_>>()
-        })
-        .collect();
-    if random.once_in(3) {
-        let count = random.pick(&[5, 127, 128, 129, 181, 182]);
+    if random.once_in(2) {
+        let count = random.pick(&[5, 20, 127, 128, 129, 181, 182]);
         let rows = cases::rows(random, count);
         score = cases::text(random, NAMES, &rows);
+    }
+    let mut edits: Vec<u32> = Vec::new();
+    for _ in 0..random.pick(&[0, 1, 3, 8, 32, 33]) {
+        edits.extend(cases::row(random));
+        edits.push(if random.once_in(20) { u32::MAX } else { random.below(14) as u32 });
+    }
+    if random.once_in(4) && !edits.is_empty() {
+        let at = random.below(edits.len());
+        edits[at] = cases::junk_word(random);
     }
     let mut edits = cases::text(random, ["note", "timbre", "morph", "harmonics", "restart", "row"], &edits);
     if random.once_in(4) {
@@ -341,21 +340,34 @@ fn programs(random: &mut Random, published: &[i16], tally: &mut Tally) {
     if random.once_in(8) {
         bank.resize(random.pick(&[0, 50_687, 50_689, 53_248, 65_536]), 0);
     }
+    [("score.txt", score), ("edits.txt", edits), ("bank.bin", bank)]
+        .map(|(name, bytes)| (name, if random.once_in(30) { None } else { Some(bytes) }))
+}
+
+/// The program on random files, some of them missing.
+fn programs(binary: &str, random: &mut Random, published: &[i16], tally: &mut Tally) {
+    let files = random_files(random, published);
     let folder = std::env::temp_dir().join(format!("retake-{}", std::process::id()));
     std::fs::create_dir_all(&folder).expect("a folder to run in");
-    for (name, bytes) in [("score.txt", &score), ("edits.txt", &edits), ("bank.bin", &bank)] {
-        std::fs::write(folder.join(name), bytes).expect("a file to write");
+    for (name, bytes) in &files {
+        if let Some(bytes) = bytes {
+            std::fs::write(folder.join(name), bytes).expect("a file to write");
+        }
     }
-    let output = Command::new(&binary).current_dir(&folder).output().expect("the program runs");
+    let output = Command::new(binary).current_dir(&folder).output().expect("the program runs");
     let file = |name: &str| std::fs::read(folder.join(name)).ok();
     let samples = file("out.f32").zip(file("aux.f32"));
     let found = program::Run { printed: output.stdout, samples };
-    if found != program::run(&score, &edits, &bank) {
-        println!("DIFFERENT: the program, on the files in {}", folder.display());
+    let [score, edits, bank] = files.map(|(_, bytes)| bytes.unwrap_or_default());
+    let expected = program::run(&score, &edits, &bank);
+    if found != expected {
+        println!("DIFFERENT: the program, on the files in {}; expected", folder.display());
+        println!("{}", String::from_utf8_lossy(&expected.printed));
         exit(1);
     }
     std::fs::remove_dir_all(&folder).expect("the folder goes");
-    tally.add("program: runs", 1);
+    let refused = expected.samples.is_none();
+    tally.add(if refused { "program: runs that refuse a file" } else { "program: runs that write samples" }, 1);
 }
 
 /// Rows that are all the same.
@@ -499,8 +511,11 @@ fn main() {
             texts(random, &mut tally);
         }
     }
-    for _ in 0..100 * scale {
-        programs(random, &published, &mut tally);
+    let program = std::env::var("RETAKE_PROGRAM").unwrap_or_default();
+    if Path::new(&program).exists() {
+        for _ in 0..200 * scale {
+            programs(&program, random, &published, &mut tally);
+        }
     }
 
     println!("equal, scale {scale}, seed {seed}:");
