@@ -11,7 +11,9 @@ fn main() {
     println!("cargo:rerun-if-changed={}", library.display());
     if !library.exists() {
         eprintln!("{} is missing.", library.display());
-        eprintln!("Run `rt staticlib retake_c` at the repository's top, or set RETAKE_LIB_DIR to the folder that has it.");
+        eprintln!(
+            "Run `rt staticlib retake_c` at the repository's top, or set RETAKE_LIB_DIR to the folder that has it."
+        );
         std::process::exit(1);
     }
     println!("cargo:rustc-link-search=native={}", folder.display());

@@ -106,8 +106,7 @@ impl Row {
 
     /// The row's words, as a score holds them.
     pub fn words(self) -> [u32; Row::WORDS] {
-        let [note, timbre, morph, harmonics] =
-            [self.note, self.timbre, self.morph, self.harmonics].map(f32::to_bits);
+        let [note, timbre, morph, harmonics] = [self.note, self.timbre, self.morph, self.harmonics].map(f32::to_bits);
         [note, timbre, morph, harmonics, u32::from(self.restart)]
     }
 }
@@ -125,11 +124,7 @@ impl Take {
     /// A take with room for this many rows, all zero.
     pub fn new(rows: usize, frames: u32) -> Take {
         let samples = rows * frames as usize;
-        Take {
-            out: vec![0; samples],
-            aux: vec![0; samples],
-            kept: vec![0; rows * KEPT_WORDS],
-        }
+        Take { out: vec![0; samples], aux: vec![0; samples], kept: vec![0; rows * KEPT_WORDS] }
     }
 }
 

@@ -1,8 +1,6 @@
 //! Each call accepted and refused, and an edited take against a fresh one.
 
-use wohketa_retake::{
-    BANK, Done, Instrument, MAP, Reason, Refusal, Row, Setup, Take, edit, read_score, render,
-};
+use wohketa_retake::{BANK, Done, Instrument, MAP, Reason, Refusal, Row, Setup, Take, edit, read_score, render};
 
 const ROW: Row = Row { note: 60.0, timbre: 0.5, morph: 0.25, harmonics: 0.5, restart: false };
 

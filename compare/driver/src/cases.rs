@@ -18,13 +18,7 @@ pub struct Case {
 
 impl Case {
     pub fn setup(&self) -> Setup<'_> {
-        Setup {
-            instrument: self.instrument,
-            rate: self.rate,
-            frames: self.frames,
-            bank: &self.bank,
-            map: &self.map,
-        }
+        Setup { instrument: self.instrument, rate: self.rate, frames: self.frames, bank: &self.bank, map: &self.map }
     }
 
     pub fn count(&self) -> usize {
@@ -155,8 +149,20 @@ pub fn row(random: &mut Random) -> [u32; ROW_WORDS] {
 pub fn junk_word(random: &mut Random) -> u32 {
     match random.below(8) {
         0 => random.pick(&[
-            0, 0x8000_0000, 0x7f80_0000, 0xff80_0000, 0x7fc0_0000, 0x7fc0_0001, 0xffff_ffff, 0x7f80_0001, 1,
-            0x7f7f_ffff, 0x5f80_0000, 0x5f7f_ffff, 0x4f00_0000, 0xcf00_0000,
+            0,
+            0x8000_0000,
+            0x7f80_0000,
+            0xff80_0000,
+            0x7fc0_0000,
+            0x7fc0_0001,
+            0xffff_ffff,
+            0x7f80_0001,
+            1,
+            0x7f7f_ffff,
+            0x5f80_0000,
+            0x5f7f_ffff,
+            0x4f00_0000,
+            0xcf00_0000,
         ]),
         1 => random.unit().to_bits(),
         2 => (random.unit() * 16.0 - 4.0).to_bits(),

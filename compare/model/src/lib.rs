@@ -60,10 +60,6 @@ impl Take {
     pub fn filled(rows: usize, frames: u32, mut word: impl FnMut() -> u32) -> Take {
         let mut words = |n: usize| (0..n).map(|_| word()).collect();
         let samples = rows * frames as usize;
-        Take {
-            out: words(samples),
-            aux: words(samples),
-            kept: words(rows * KEPT_WORDS),
-        }
+        Take { out: words(samples), aux: words(samples), kept: words(rows * KEPT_WORDS) }
     }
 }

@@ -75,8 +75,5 @@ pub fn run(score: &[u8], edits: &[u8], bank: &[u8]) -> Run {
         };
     }
     let bytes = |words: &[u32]| words.iter().flat_map(|w| w.to_le_bytes()).collect();
-    Run {
-        printed: printed.into_bytes(),
-        samples: Some((bytes(&take.out), bytes(&take.aux))),
-    }
+    Run { printed: printed.into_bytes(), samples: Some((bytes(&take.out), bytes(&take.aux))) }
 }

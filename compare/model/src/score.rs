@@ -21,11 +21,10 @@ pub fn row_within(row: &[u32]) -> bool {
 
 /// The text's lines. The second of each pair: an LF ends it.
 fn lines(text: &[u8]) -> impl Iterator<Item = (&[u8], bool)> {
-    text.split_inclusive(|b| *b == b'\n')
-        .map(|line| match line.split_last() {
-            Some((b'\n', rest)) => (rest, true),
-            _ => (line, false),
-        })
+    text.split_inclusive(|b| *b == b'\n').map(|line| match line.split_last() {
+        Some((b'\n', rest)) => (rest, true),
+        _ => (line, false),
+    })
 }
 
 /// A word: eight hexadecimal digits of either letter case.
@@ -73,9 +72,13 @@ pub fn values<const N: usize>(
 
 /// The rows of a score text, tested by 10, then by 11 and 9 line after line, then by 6.
 pub fn rows(text: &[u8]) -> Result<Vec<[u32; ROW_WORDS]>, Answer> {
-    let rows = values(text, NAMES, |number, row| {
-        if row_within(row) { Ok(()) } else { Err(Answer::Refused(9, number as u64)) }
-    })?;
+    let rows = values(
+        text,
+        NAMES,
+        |number, row| {
+            if row_within(row) { Ok(()) } else { Err(Answer::Refused(9, number as u64)) }
+        },
+    )?;
     if rows.is_empty() || rows.len() > ROWS {
         return Err(Answer::Refused(6, 0));
     }

@@ -55,7 +55,7 @@ fn refusal_of_lengths(setup: &Setup, rows: &[u32], take: &Take) -> Option<Answer
         4
     } else if setup.map.len() != map {
         5
-    } else if rows.len() % ROW_WORDS != 0 || count == 0 || count > ROWS {
+    } else if !rows.len().is_multiple_of(ROW_WORDS) || count == 0 || count > ROWS {
         6
     } else if take.out.len() != samples || take.aux.len() != samples || take.kept.len() != KEPT_WORDS * count {
         7

@@ -1,9 +1,7 @@
 //! "Path and terrain voice".
 
 use crate::Setup;
-use crate::floats::{
-    a0, fast_rsqrt_carmack, increment, note_to_frequency, part, sine, whole,
-};
+use crate::floats::{a0, fast_rsqrt_carmack, increment, note_to_frequency, part, sine, whole};
 use crate::voice::{Block, Holds, Parameters};
 
 /// Path samples for each frame.

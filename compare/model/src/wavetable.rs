@@ -47,9 +47,7 @@ impl Wavetable {
         let [px, py, pz] = self.pre_lp;
         let [lx, ly, lz] = self.lp;
         let [x, y, z] = self.previous;
-        [
-            self.phase, px, py, pz, lx, ly, lz, x, y, z, self.previous_f0, self.diff_lp, self.diff_previous,
-        ]
+        [self.phase, px, py, pz, lx, ly, lz, x, y, z, self.previous_f0, self.diff_lp, self.diff_previous]
     }
 
     /// One block: the next state is left in `self`.

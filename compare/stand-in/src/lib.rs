@@ -1,7 +1,8 @@
 //! The library's three C functions (`include/retake.h`) over the model.
 //!
 //! # Safety
-//! Each pointer has as many words behind it as its length says.
+//! Each pointer has as many elements behind it as its length says.
+#![allow(clippy::missing_safety_doc)]
 
 use model::{Answer, Setup, Take, score, take};
 use std::slice::{from_raw_parts, from_raw_parts_mut};
@@ -38,7 +39,12 @@ impl Lent<'_> {
 
 #[unsafe(no_mangle)]
 pub unsafe extern "C" fn retake_read_score(
-    text: *const u8, text_len: usize, rows: *mut u32, rows_len: usize, first: *mut u64, second: *mut u64,
+    text: *const u8,
+    text_len: usize,
+    rows: *mut u32,
+    rows_len: usize,
+    first: *mut u64,
+    second: *mut u64,
 ) -> u32 {
     unsafe {
         let answer = score::read_score(from_raw_parts(text, text_len), from_raw_parts_mut(rows, rows_len));
@@ -48,9 +54,23 @@ pub unsafe extern "C" fn retake_read_score(
 
 #[unsafe(no_mangle)]
 pub unsafe extern "C" fn retake_render(
-    instrument: u32, rate: u32, frames: u32, bank: *const i16, bank_len: usize, map: *const u8, map_len: usize,
-    rows: *const u32, rows_len: usize, out: *mut u32, out_len: usize, aux: *mut u32, aux_len: usize,
-    kept: *mut u32, kept_len: usize, first: *mut u64, second: *mut u64,
+    instrument: u32,
+    rate: u32,
+    frames: u32,
+    bank: *const i16,
+    bank_len: usize,
+    map: *const u8,
+    map_len: usize,
+    rows: *const u32,
+    rows_len: usize,
+    out: *mut u32,
+    out_len: usize,
+    aux: *mut u32,
+    aux_len: usize,
+    kept: *mut u32,
+    kept_len: usize,
+    first: *mut u64,
+    second: *mut u64,
 ) -> u32 {
     unsafe {
         let (bank, map) = (from_raw_parts(bank, bank_len), from_raw_parts(map, map_len));
@@ -67,10 +87,29 @@ pub unsafe extern "C" fn retake_render(
 
 #[unsafe(no_mangle)]
 pub unsafe extern "C" fn retake_edit(
-    instrument: u32, rate: u32, frames: u32, bank: *const i16, bank_len: usize, map: *const u8, map_len: usize,
-    rows: *mut u32, rows_len: usize, position: u64, note: u32, timbre: u32, morph: u32, harmonics: u32,
-    restart: u32, out: *mut u32, out_len: usize, aux: *mut u32, aux_len: usize,
-    kept: *mut u32, kept_len: usize, first: *mut u64, second: *mut u64,
+    instrument: u32,
+    rate: u32,
+    frames: u32,
+    bank: *const i16,
+    bank_len: usize,
+    map: *const u8,
+    map_len: usize,
+    rows: *mut u32,
+    rows_len: usize,
+    position: u64,
+    note: u32,
+    timbre: u32,
+    morph: u32,
+    harmonics: u32,
+    restart: u32,
+    out: *mut u32,
+    out_len: usize,
+    aux: *mut u32,
+    aux_len: usize,
+    kept: *mut u32,
+    kept_len: usize,
+    first: *mut u64,
+    second: *mut u64,
 ) -> u32 {
     unsafe {
         let (bank, map) = (from_raw_parts(bank, bank_len), from_raw_parts(map, map_len));

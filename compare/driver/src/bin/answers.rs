@@ -140,9 +140,8 @@ fn climbing() -> Entry {
 
 fn words(entry: &Entry) -> Vec<u32> {
     let case = &entry.case;
-    let mut words = vec![
-        case.instrument, case.rate, case.frames, entry.seed, case.count() as u32, entry.edits.len() as u32,
-    ];
+    let mut words =
+        vec![case.instrument, case.rate, case.frames, entry.seed, case.count() as u32, entry.edits.len() as u32];
     words.extend(&case.rows);
     for (k, row) in &entry.edits {
         words.push(*k as u32);

@@ -55,7 +55,8 @@ impl<'a> Bench<'a> {
 
     /// The original's whole rendering.
     fn original(&mut self) -> Duration {
-        let setup = model::Setup { instrument: self.number, rate: RATE, frames: FRAMES, bank: self.bank, map: self.map };
+        let setup =
+            model::Setup { instrument: self.number, rate: RATE, frames: FRAMES, bank: self.bank, map: self.map };
         timed(|| original::play(setup, self.rows, &mut self.out, &mut self.aux))
     }
 
