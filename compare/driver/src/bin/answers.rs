@@ -28,6 +28,7 @@ use std::path::Path;
 use driver::cases::{self, Case};
 use driver::original;
 use driver::random::Random;
+use model::score::{row_within, within};
 use model::take::{Row, demand_3, fresh};
 use model::voice::Block;
 use model::{Answer, BANK, MAP, ROW_WORDS};
@@ -116,7 +117,8 @@ fn edit(random: &mut Random, case: &Case) -> Edit {
     let k = random.below(case.count());
     let mut row: [u32; ROW_WORDS] = std::array::from_fn(|i| case.rows[k * ROW_WORDS + i]);
     let name = random.below(ROW_WORDS);
-    row[name] = if name < 4 && row[name] > 1 && random.once_in(3) { row[name] - 1 } else { cases::row(random)[name] };
+    let beside = row[name].wrapping_sub(1);
+    row[name] = if random.once_in(3) && within(name, beside) { beside } else { cases::row(random)[name] };
     (k, row)
 }
 
@@ -174,6 +176,9 @@ fn main() {
         }
     }
 
+    let accepted =
+        |entry: &Entry| entry.case.rows.chunks(ROW_WORDS).chain(entry.edits.iter().map(|e| &e.1[..])).all(row_within);
+    assert!(list.iter().all(|(entry, _)| accepted(entry)), "every row is within its limits");
     let mut scores = vec![list.len() as u32];
     let mut stdout = String::new();
     for (entry, lines) in &list {
