@@ -9,7 +9,7 @@ import math
 import sys
 
 LOW, HIGH = 1e-4, 2.0
-LEFT, WIDTH, BAR, GAP, TOP = 230, 480, 16, 6, 44
+LEFT, WIDTH, BAR, GAP, TOP = 250, 480, 16, 6, 44
 VOICES = {"0": "wavetable", "1": "terrain", "2": "terrain with map"}
 COLOURS = {"render": "#2b6cb0", "edit": "#2f855a", "read": "#b7791f"}
 
@@ -24,8 +24,9 @@ def label(measurement):
     if words[0] == "read":
         return "reading the text"
     if words[0] == "render":
-        return f"{VOICES[words[1]]}, {words[2]} bank"
-    return f"edit of {words[-1]} rows, {VOICES[words[1]]}"
+        return f"render, {VOICES[words[1]]}, {words[2]} bank"
+    rows = "1 row" if words[-1] == "1" else f"{int(words[-1]):,} rows"
+    return f"edit, {rows}, {VOICES[words[1]]}"
 
 
 def bar(index, row):

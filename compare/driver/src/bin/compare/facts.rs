@@ -1,6 +1,6 @@
 //! Single scores with a known outcome, on the model, the original and the library.
 
-use driver::cases::Case;
+use driver::cases::{self, Case};
 use driver::library;
 use driver::random::Random;
 use model::{Answer, ROW_WORDS, floats, program, wavetable};
@@ -61,6 +61,13 @@ pub fn facts(published: &[i16], random: &mut Random, tally: &mut Tally) {
         let rows = model_is_original(&case, tally);
         let before: u64 = rows[..rows.len() - 1].iter().map(|r| r.block.held).sum();
         same("held before and in the last row", &case, [before, rows[rows.len() - 1].block.held], [0, held]);
+        rendering(&case, case.junk_take(random), tally);
+    }
+
+    // The largest scores.
+    for instrument in 0..3 {
+        let case = plain(instrument, model::FRAMES, cases::usual_rows(random, model::ROWS, 1000));
+        model_is_original(&case, tally);
         rendering(&case, case.junk_take(random), tally);
     }
 
