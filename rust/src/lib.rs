@@ -179,6 +179,11 @@ impl Reason {
         Reason::Space,
     ];
 
+    fn of(number: u32) -> Reason {
+        let known = Reason::ALL.into_iter().find(|reason| reason.number() == number);
+        known.unwrap_or_else(|| panic!("refusal number {number} of the library is not known here"))
+    }
+
     /// The refusal's number.
     pub fn number(self) -> u32 {
         self as u32
@@ -213,10 +218,9 @@ impl std::error::Error for Refusal {}
 /// Runs a C function, whose last two parameters it is handed, and reads its answer.
 fn answer(call: impl FnOnce(*mut u64, *mut u64) -> u32) -> Result<(u64, u64), Refusal> {
     let (mut first, mut second) = (0, 0);
-    let number = call(&mut first, &mut second);
-    match Reason::ALL.into_iter().find(|reason| reason.number() == number) {
-        Some(reason) => Err(Refusal { reason, place: first }),
-        None => Ok((first, second)),
+    match call(&mut first, &mut second) {
+        0 => Ok((first, second)),
+        number => Err(Refusal { reason: Reason::of(number), place: first }),
     }
 }
 
