@@ -10,7 +10,7 @@ use Rattle.utils.specs.Frames.{stateAfter, eachOf}
 use Rattle.oscillator.specs.declared.sine_oscillator.FastSineOscillator.{FastSineOscillator}
 use Rattle.oscillator.specs.declared.sine_oscillator.Quadrature.{Quadrature}
 
--- What `init` leaves: "the fresh terrain state has path x = 1".
+-- What `init` leaves: x is 1, the others are 0.
 abbrev pub pathFresh : FastSineOscillator
 pathFresh = record { x = decimal 1 0; y = decimal 0 0; epsilon = decimal 0 0; amplitude = decimal 0 0 }
 
