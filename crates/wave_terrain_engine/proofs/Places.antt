@@ -7,10 +7,11 @@ use native.Mathlib.Nat.{min-le-right, min-eq-left, min-eq-right}
 use native.Mathlib.Omega.{arith}
 use borrow.Author.Tests.{lt-ltb, le-ltb, ltb-true, ltb-false}
 use lib.Dec.{ltb}
-use lib.Ieee.{Float, mul, ofInt, round}
+use lib.Ieee.{Float, mul, div, ofInt, round}
 use Rattle.words.specs.Binary32.{_⊖_, _⊗_, decimal, ofCount}
 use Rattle.words.specs.Parts.{wholePart, wholeFloat, partOf}
 use Rattle.words.specs.declared.Part.{Part}
+use Rattle.wave_terrain_engine.specs.Block.{scale}
 use Rattle.wave_terrain_engine.specs.Heights.{heldPlace, mapPlace, bankPlace}
 use Rattle.wave_terrain_engine.specs.declared.terrain.Place.{Place}
 
@@ -23,12 +24,9 @@ place-within edge flat h = rw (le-ltb edge flat h, min-eq-left h)
 pub place-most : (r : Place) (edge flat : ℕ) → r ≡ heldPlace edge flat → r .flat ≤ edge
 place-most r edge flat e = subst (λ (p : Place). p .flat ≤ edge) (sym e) (min-le-right flat edge)
 
-held-most : (b : Bool) → cond b 1 0 ≤ 1
+pub held-most : (b : Bool) → cond b 1 0 ≤ 1
 held-most true = omega arith
 held-most false = omega arith
-
-pub place-held : (edge flat : ℕ) → heldPlace edge flat .held ≤ 1
-place-held edge flat = held-most (ltb edge flat)
 
 same-place : (edge s t : ℕ) → (s ≡ t) ⊎ ((edge < s) × (edge < t)) → heldPlace edge s ≡ heldPlace edge t
 same-place edge s t (inl e) = ap (heldPlace edge) e
@@ -84,3 +82,7 @@ coord-scale = refl
 pub count-float : (ofCount 128 ≡ decimal 128 0) × (ofCount 63 ≡ decimal 63 0)
 unfolding ofInt round decimal
 count-float = (refl, refl)
+
+pub scale-half : scale ≡ decimal 5 1
+unfolding div ofInt round decimal
+scale-half = refl

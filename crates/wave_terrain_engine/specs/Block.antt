@@ -20,7 +20,7 @@ use Rattle.oscillator.specs.Path.{pathFresh, pathRun, pathRun2, pathAfter}
 use Rattle.oscillator.specs.Sine.{sineOf}
 use Rattle.wave_terrain_engine.specs.Heights.{terrainOf}
 use Rattle.wave_terrain_engine.specs.declared.terrain.Reading.{Reading}
-use Rattle.wave_terrain_engine.specs.declared.frames.Frame.{Frame}
+use Rattle.wave_terrain_engine.specs.declared.frames.Interpolators.{Interpolators}
 use Rattle.wave_terrain_engine.specs.declared.WaveTerrainEngine.{WaveTerrainEngine}
 
 -- "Bank: 25,344 i16, lent"; a map is "4,096 bytes", or none: "a slice, length 0 for none".
@@ -49,19 +49,26 @@ layerTop map = cond (eqb (length map) 0) 6 7
 
 -- ---- A frame. Its state: the interpolators of offset and layer, and the next entry of the path's two runs.
 
+pub record Frame : Type 0 where
+  pub at : Interpolators
+  pub ij : ℕ
+
+abbrev pub interpolatorsNext : Interpolators → Interpolators
+interpolatorsNext s = record { offset = stepped (s .offset); «terrain_idx» = stepped (s .«terrain_idx») }
+
 abbrev pub frameNext : Frame → Frame
-frameNext s = record { offset = stepped (s .offset); «terrain_idx» = stepped (s .«terrain_idx»); ij = s .ij + oversampling }
+frameNext s = record { at = interpolatorsNext (s .at); ij = s .ij + oversampling }
 
 -- `x_offset`, and `z_integral` with `z_fractional`: "its fraction is taken against the held number".
-abbrev pub offsetOf : Frame → Float
+abbrev pub offsetOf : Interpolators → Float
 offsetOf s = stepped (s .offset) .value
 
-abbrev pub layerOf : ℕ → Frame → Part
+abbrev pub layerOf : ℕ → Interpolators → Part
 layerOf top s = partOf top (stepped (s .«terrain_idx») .value)
 
 -- x of an oversample, by the path's entry.
-abbrev pub shifted : Float → Frame → Float
-shifted x s = x ⊗ (decimal 1 0 ⊖ absOf (offsetOf s)) ⊕ offsetOf s
+abbrev pub shiftedX : Float → Float → Float
+shiftedX x xOffset = x ⊗ (decimal 1 0 ⊖ absOf xOffset) ⊕ xOffset
 
 -- From one height to the next layer's.
 abbrev pub between : Float → Float → Float → Float
@@ -77,12 +84,12 @@ phaseOf y z y' z' = decimal 1 0 ⊕ decimal 5 1 ⊗ scale ⊗ (decimal 0 0 ⊕ (
 module _ (sine : List Float) (bank : List ℤ) (map : List ℕ) (run run2 : List Float) where
   -- The height of a layer at entry ij of the runs.
   abbrev pub heightAt : Frame → ℕ → ℕ → Reading
-  heightAt s ij layer = terrainOf sine bank map (shifted (getD run ij nan) s) (getD run2 ij nan) layer
+  heightAt s ij layer = terrainOf sine bank map (shiftedX (getD run ij nan) (offsetOf (s .at))) (getD run2 ij nan) layer
 
   -- z at entry ij: between the frame's layer and the next.
   abbrev pub zAt : Frame → ℕ → Float
   zAt s ij =
-      let layer = layerOf (layerTop map) s in
+      let layer = layerOf (layerTop map) (s .at) in
       between (heightAt s ij (layer .whole) .value) (heightAt s ij (layer .whole + 1) .value) (layer .fraction)
 
   abbrev pub frameOut : Frame → ℕ
@@ -96,7 +103,7 @@ module _ (sine : List Float) (bank : List ℤ) (map : List ℕ) (run run2 : List
   -- "that reading adds 1 to `held`": two oversamples of two layers.
   abbrev pub frameHeld : Frame → ℕ
   frameHeld s =
-      let layer = layerOf (layerTop map) s .whole in
+      let layer = layerOf (layerTop map) (s .at) .whole in
       heightAt s (s .ij) layer .held + heightAt s (s .ij) (layer + 1) .held + (heightAt s (s .ij + 1) layer .held + heightAt s (s .ij + 1) (layer + 1) .held)
 
 -- ---- The block.
@@ -108,15 +115,14 @@ radiusOf f0 timbre =
     decimal 1 1 ⊕ decimal 9 1 ⊗ timbre ⊗ attenuation ⊗ (decimal 2 0 ⊖ attenuation)
 
 -- The frame loop's start: offset and layer are on their way over n frames.
-unfoldable pub frameOf : List ℕ → EngineParameters → WaveTerrainEngine → ℕ → Frame
-frameOf map p s n =
+unfoldable pub interpolatorsOf : List ℕ → EngineParameters → WaveTerrainEngine → ℕ → Interpolators
+interpolatorsOf map p s n =
     record {
       offset = interpolator (s .offset) (decimal 19 1 ⊗ p .morph ⊖ decimal 1 0) n;
       «terrain_idx» =
           interpolator (s .«terrain_idx»)
           (minOf (p .harmonics ⊗ decimal 105 2) (decimal 1 0) ⊗ (ofCount (numTerrains map) ⊖ decimal 10001 4))
           n;
-      ij = 0;
     }
 
 -- What a block gives: its words, the next state, and the readings held.
@@ -133,7 +139,7 @@ terrainBlock sine high low bank map n p s =
     let radius = radiusOf f0 (p .timbre) in
     let run = pathRun (s .path) (f0 ⊗ scale) radius (oversampling * n) in
     let run2 = pathRun2 (s .path) (f0 ⊗ scale) radius (oversampling * n) in
-    let start = frameOf map p s n in
+    let start : Frame = record { at = interpolatorsOf map p s n; ij = 0 } in
     let end = stateAfter frameNext n start in
     record {
       out = eachOf frameNext (frameOut sine bank map run run2) n start;
@@ -141,8 +147,8 @@ terrainBlock sine high low bank map n p s =
       state =
           record {
             path = pathAfter (s .path) (f0 ⊗ scale) radius (oversampling * n);
-            offset = end .offset .value;
-            «terrain_idx» = end .«terrain_idx» .value;
+            offset = end .at .offset .value;
+            «terrain_idx» = end .at .«terrain_idx» .value;
           };
       held = sumOf frameNext (frameHeld sine bank map run run2) n start;
     }
