@@ -1,0 +1,5 @@
+-- What the proofs of this crate share.
+pub mod Counts
+pub mod Layers
+pub mod Places
+pub mod Shifts
