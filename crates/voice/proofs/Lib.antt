@@ -1,0 +1,2 @@
+-- What the proofs of this crate share, and what those above cite.
+pub mod Laws
