@@ -1,5 +1,5 @@
 -- Document 01, "Path and terrain voice": a block of frames, `render` of `wave_terrain_engine.rs`.
-use Prim.Native.Nat.{ℕ, _+_, _*_}
+use Prim.Native.Nat.{ℕ, _+_, _*_, _≤_}
 use mathlib.Core.Path.{_≡_}
 use mathlib.Core.Logic.{_⊎_}
 use mathlib.Core.Bool.{cond}
@@ -106,6 +106,20 @@ module _ (sine : List Float) (bank : List ℤ) (map : List ℕ) (run run2 : List
       let layer = layerOf (layerTop map) (s .at) .whole in
       heightAt s (s .ij) layer .held + heightAt s (s .ij) (layer + 1) .held + (heightAt s (s .ij + 1) layer .held + heightAt s (s .ij + 1) (layer + 1) .held)
 
+  -- The frame loop: n frames, from the runs' first entry on.
+  module _ (start : Interpolators) (n : ℕ) where
+    abbrev firstFrame : Frame
+    firstFrame = record { at = start; ij = 0 }
+
+    abbrev pub framesOut : List ℕ
+    framesOut = eachOf frameNext frameOut n firstFrame
+
+    abbrev pub framesAux : List ℕ
+    framesAux = eachOf frameNext frameAux n firstFrame
+
+    abbrev pub framesHeld : ℕ
+    framesHeld = sumOf frameNext frameHeld n firstFrame
+
 -- ---- The block.
 
 -- The path's radius.
@@ -139,16 +153,24 @@ terrainBlock sine high low bank map n p s =
     let radius = radiusOf f0 (p .timbre) in
     let run = pathRun (s .path) (f0 ⊗ scale) radius (oversampling * n) in
     let run2 = pathRun2 (s .path) (f0 ⊗ scale) radius (oversampling * n) in
-    let start : Frame = record { at = interpolatorsOf map p s n; ij = 0 } in
-    let end = stateAfter frameNext n start in
+    let start = interpolatorsOf map p s n in
+    let end = stateAfter interpolatorsNext n start in
     record {
-      out = eachOf frameNext (frameOut sine bank map run run2) n start;
-      aux = eachOf frameNext (frameAux sine bank map run run2) n start;
+      out = framesOut sine bank map run run2 start n;
+      aux = framesAux sine bank map run run2 start n;
       state =
           record {
             path = pathAfter (s .path) (f0 ⊗ scale) radius (oversampling * n);
-            offset = end .at .offset .value;
-            «terrain_idx» = end .at .«terrain_idx» .value;
+            offset = end .offset .value;
+            «terrain_idx» = end .«terrain_idx» .value;
           };
-      held = sumOf frameNext (frameHeld sine bank map run run2) n start;
+      held = framesHeld sine bank map run run2 start n;
     }
+
+-- What a call of `render` leaves, by a block: the words lent, the state and the count that it answers.
+pub record Renders (b : TerrainBlock) (n : ℕ) (state : WaveTerrainEngine) (held : ℕ) (out aux : List ℕ) : Type 0 where
+  pub out-is : out ≡ b .out
+  pub aux-is : aux ≡ b .aux
+  pub state-is : state ≡ b .state
+  pub held-is : held ≡ b .held
+  pub held-most : held ≤ 4 * n

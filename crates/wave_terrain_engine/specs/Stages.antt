@@ -1,13 +1,14 @@
 -- What the short loops over lent runs leave: frame by frame the values of `Block`, read off the runs that the loop before left.
-use Prim.Native.Nat.{ℕ, _+_, _*_, _/_}
+use Prim.Native.Nat.{ℕ, _+_, _*_, _/_, _≤_}
+use mathlib.Core.Path.{_≡_}
 use mathlib.Core.List.{List}
 use lib.IntN.{ℤ}
-use lib.ListN.{getD}
+use lib.ListN.{length, getD}
 use lib.Ieee.{Float, nan, binary32, toBits}
 use Rattle.utils.specs.Frames.{stateAfter}
 use Rattle.oscillator.specs.Sine.{sineOf}
 use Rattle.wave_terrain_engine.specs.Heights.{terrainOf}
-use Rattle.wave_terrain_engine.specs.Block.{interpolatorsNext, offsetOf, layerOf, shiftedX, between, outOf, phaseOf}
+use Rattle.wave_terrain_engine.specs.Block.{interpolatorsNext, offsetOf, layerOf, shiftedX, between, outOf, phaseOf, framesOut, framesAux, framesHeld}
 use Rattle.wave_terrain_engine.specs.declared.frames.Interpolators.{Interpolators}
 use Rattle.wave_terrain_engine.specs.declared.terrain.Reading.{Reading}
 
@@ -41,3 +42,19 @@ module _ (ys fractions z0s z1s : List Float) where
 -- The aux word of frame i.
 abbrev pub stageAux : List Float → List Float → ℕ → ℕ
 stageAux sine phases i = toBits binary32 (sineOf sine (getD phases i nan))
+
+-- Room for the oversamples and the frames of n frames.
+pub record Room (n : ℕ) (run run2 xs z1s : List Float) (layers : List ℕ) (fractions : List Float) : Type 0 where
+  pub run-room : n * 2 ≤ length run
+  pub run2-room : n * 2 ≤ length run2
+  pub xs-room : n * 2 ≤ length xs
+  pub z1s-room : n * 2 ≤ length z1s
+  pub layers-room : n ≤ length layers
+  pub fractions-room : n ≤ length fractions
+
+-- What the frame loop leaves.
+pub record FramesDone (sine : List Float) (bank : List ℤ) (map : List ℕ) (run run2 : List Float) (start : Interpolators) (n held : ℕ) (out aux : List ℕ) : Type 0 where
+  pub out-is : out ≡ framesOut sine bank map run run2 start n
+  pub aux-is : aux ≡ framesAux sine bank map run run2 start n
+  pub held-is : held ≡ framesHeld sine bank map run run2 start n
+  pub held-most : held ≤ 4 * n

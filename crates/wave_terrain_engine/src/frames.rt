@@ -2,12 +2,12 @@
 // Based on MIT-licensed code (c) 2021 by Emilie Gillet (emilie.o.gillet@gmail.com)
 ghost use mathlib.Core.Path.{_≡_};
 ghost use Prim.Native.Nat.{ℕ, suc, _+_, _*_, _/_, _≤_, _<_};
-ghost use lib.ListN.{length, getD};
+ghost use lib.ListN.{length, getD, take};
 ghost use lib.Ieee.{nan};
 ghost use Rattle.utils.specs.Frames.{stateAfter, sumOf};
 ghost use Rattle.utils.proofs.Frames.{Filled};
 ghost use Rattle.wave_terrain_engine.specs.Block.{Lent, layerTop, interpolatorsNext, shiftedX, between, outOf, phaseOf};
-ghost use Rattle.wave_terrain_engine.specs.Stages.{stageX, stageLayer, stageFraction, stageHeight, stageOut, stagePhase, stageAux};
+ghost use Rattle.wave_terrain_engine.specs.Stages.{stageX, stageLayer, stageFraction, stageHeight, stageOut, stagePhase, stageAux, Room, FramesDone};
 use crate::terrain::terrain;
 use oscillator::sine_oscillator::sine;
 use utils::parameter_interpolator::ParameterInterpolator;
@@ -92,6 +92,7 @@ pub fn heights(
     requires { ⌜ Lent (now bank) (now map) ⌝ }
     requires { ⌜ (n ≤ length (now xs)) × ((n ≤ length (now ys)) × ((n ≤ length (now layers) * 2) × (n ≤ length (now zs)))) ⌝ }
     requires { ⌜ ((j : ℕ) → j < n → getD (now layers) (j / 2) 0 + up ≤ layerTop (now map) + 1) ⌝ }
+    ensures { λ r. ⌜ r ≤ n ⌝ }
     ensures { λ r. ⌜ r ≡ sumOf suc (λ (j : ℕ). stageHeight (now (table .entry)) (now (bank .entry)) (now (map .entry)) (now (xs .entry)) (now (ys .entry)) (now (layers .entry)) up j .held) n 0 ⌝ }
     ensures { λ _. ⌜ Filled (λ (j : ℕ). stageHeight (now (table .entry)) (now (bank .entry)) (now (map .entry)) (now (xs .entry)) (now (ys .entry)) (now (layers .entry)) up j .value) nan (now (zs .exit)) n ⌝ }
 {
@@ -166,5 +167,45 @@ pub fn finish(table: &[f32; 641], phases: &[f32], aux: &mut [u32])
     while i < aux.len() {
         aux[i] = words::to_word(sine(table, phases[i]));
         i += 1;
+    }
+}
+
+// The interpolators after a block's frames, and how many readings were held.
+pub struct Frames {
+    pub end: Interpolators,
+    pub held: usize,
+}
+
+// The frames of a block, by the path's two runs. `run` and the runs from `xs` on are overwritten.
+pub fn render_frames(
+    start: Interpolators,
+    top: usize,
+    table: &[f32; 641],
+    bank: &[i16],
+    map: &[u8],
+    run: &mut [f32],
+    run_2: &[f32],
+    xs: &mut [f32],
+    z1s: &mut [f32],
+    layers: &mut [u32],
+    fractions: &mut [f32],
+    out: &mut [u32],
+    aux: &mut [u32],
+) -> Frames
+    requires { ⌜ Lent (now bank) (now map) ⌝ }
+    requires { ⌜ (top ≡ layerTop (now map)) × (length (now aux) ≡ length (now out)) ⌝ }
+    requires { ⌜ Room (length (now out)) (now run) (now «run_2») (now xs) (now z1s) (now layers) (now fractions) ⌝ }
+    ensures { λ r. ⌜ r .end ≡ stateAfter interpolatorsNext (length (now (out .entry))) start ⌝ }
+    ensures { λ r. ⌜ FramesDone (now (table .entry)) (now (bank .entry)) (now (map .entry)) (take (2 * length (now (out .entry))) (now (run .entry))) (take (2 * length (now (out .entry))) (now («run_2» .entry))) start (length (now (out .entry))) (r .held) (now (out .exit)) (now (aux .exit)) ⌝ }
+{
+    let n = out.len();
+    let end = shift(start, n, top, run, xs, layers, fractions);
+    let held = heights(n * 2, 0, table, bank, map, xs, run_2, layers, run);
+    let held_2 = heights(n * 2, 1, table, bank, map, xs, run_2, layers, z1s);
+    sums(run_2, fractions, run, z1s, xs, out);
+    finish(table, xs, aux);
+    Frames {
+        end,
+        held: held + held_2,
     }
 }

@@ -109,8 +109,10 @@ same-length c = search needs
 returns : tie.Need-returns Inv-loop μ-loop
 returns c =
     let inv = c .before .loop .inv in
-    let e : c .before .loop .i ≡ c .before .before .before .before .before .before .before .args .n = omega arith in
-    (rw e at (inv .1 .0), rw e at (inv .1 .1 .filled))
+    let a = c .before .before .before .before .before .before .before .args in
+    let e : c .before .loop .i ≡ a .n = omega arith in
+    let few = stage-held (a .table .now) (a .bank .now) (a .map .now) (a .xs .now) (a .ys .now) (a .layers .now) (a .up) _ _ (inv .1 .0) in
+    (omega (arith, few), (rw e at (inv .1 .0), rw e at (inv .1 .1 .filled)))
 
 pub heights-spec : {M : Type 1} → statement M
 heights-spec =
