@@ -1,7 +1,8 @@
 // The state of a voice, its kept words, and the block of a row, for either voice.
 ghost use mathlib.Core.Path.{_≡_};
+ghost use Prim.Native.Nat.{_*_, _≤_, _<_};
 ghost use lib.ListN.{length};
-ghost use Rattle.voice.specs.Voice.{freshState, keptWords, wavetableOf, terrainOf, stateOf};
+ghost use Rattle.voice.specs.Voice.{freshState, keptWords, wavetableOf, terrainOf, stateOf, blockOf, Lent, Tables};
 use oscillator::sine_oscillator::FastSineOscillator;
 use oscillator::wavetable_oscillator::Differentiator;
 use utils::engine::EngineParameters;
@@ -138,5 +139,82 @@ pub fn state_of(instrument: u32, kept: &[u32]) -> State
         State::Wavetable(wavetable_of(kept))
     } else {
         State::Terrain(terrain_of(kept))
+    }
+}
+
+// A row's block: one sample into each place of `out` and of `aux`. Tables and the arrays to work in are lent.
+pub fn render(
+    state: State,
+    parameters: EngineParameters,
+    bank: &[i16],
+    map: &[u8],
+    sine: &[f32; 641],
+    high: &[f32; 256],
+    low: &[f32; 256],
+    keys: &mut [u32; 128],
+    run_1: &mut [f32; 256],
+    run_2: &mut [f32; 256],
+    run_3: &mut [f32; 256],
+    run_4: &mut [f32; 256],
+    corners: &mut [f32; 1024],
+    out: &mut [u32],
+    aux: &mut [u32],
+) -> Block
+    requires { ⌜ Lent (now bank) (now map) ⌝ }
+    requires { ⌜ Tables (now sine) (now high) (now low) ⌝ }
+    requires { ⌜ 0 < length (now out) ⌝ }
+    requires { ⌜ length (now out) ≤ 128 ⌝ }
+    requires { ⌜ length (now aux) ≡ length (now out) ⌝ }
+    ensures { λ r. ⌜ r .state ≡ blockOf (now (bank .entry)) (now (map .entry)) (length (now (out .entry))) parameters state .state ⌝ }
+    ensures { λ r. ⌜ r .held ≡ blockOf (now (bank .entry)) (now (map .entry)) (length (now (out .entry))) parameters state .held ⌝ }
+    ensures { λ r. ⌜ r .held ≤ 4 * length (now (out .entry)) ⌝ }
+    ensures { λ _. ⌜ now (out .exit) ≡ blockOf (now (bank .entry)) (now (map .entry)) (length (now (out .entry))) parameters state .out ⌝ }
+    ensures { λ _. ⌜ now (aux .exit) ≡ blockOf (now (bank .entry)) (now (map .entry)) (length (now (out .entry))) parameters state .aux ⌝ }
+{
+    match state {
+        State::Wavetable(w) => {
+            let b = w.render(
+                parameters,
+                bank,
+                high,
+                low,
+                keys,
+                run_1,
+                run_2,
+                run_3,
+                run_4,
+                corners,
+                out,
+                aux,
+            );
+            let s = b.state;
+            Block {
+                state: State::Wavetable(s),
+                held: b.held,
+            }
+        }
+        State::Terrain(t) => {
+            let b = t.render(
+                parameters,
+                bank,
+                map,
+                sine,
+                high,
+                low,
+                keys,
+                run_1,
+                run_2,
+                run_3,
+                run_4,
+                corners,
+                out,
+                aux,
+            );
+            let s = b.state;
+            Block {
+                state: State::Terrain(s),
+                held: b.held,
+            }
+        }
     }
 }
