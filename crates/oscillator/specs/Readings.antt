@@ -1,0 +1,58 @@
+-- Document 01, "Interpolators and differentiator" (`wavetable_oscillator.rs`), and `interpolate_integrated_wave` of `wave_terrain_engine.rs`.
+-- The readings are over any element that has a float; `none` is what stands past a table's end, where nothing reads.
+use Prim.Native.Nat.{ℕ, _+_}
+use mathlib.Core.List.{List}
+use lib.IntN.{ℤ, pos}
+use lib.ListN.{getD}
+use lib.Ieee.{Float, binary32, ofInt}
+use Rattle.words.specs.Binary32.{_⊕_, _⊖_, _⊗_, decimal, ofCount}
+use Rattle.utils.specs.Utils.{onePole}
+use Rattle.oscillator.specs.declared.wavetable_oscillator.Differentiator.{Differentiator}
+use Rattle.oscillator.specs.declared.wavetable_oscillator.Differentiated.{Differentiated}
+
+-- "The differentiator hands back its next state with each sample."
+abbrev pub differentiated : Differentiator → Float → Float → Differentiated
+differentiated d coefficient s =
+    let lp = onePole (d .lp) (s ⊖ d .previous) coefficient in
+    record { next = record { lp = lp; previous = s }; sample = lp }
+
+-- An i16 and a byte as floats.
+abbrev pub floatOfI16 : ℤ → Float
+floatOfI16 n = ofInt binary32 n
+
+abbrev pub floatOfU8 : ℕ → Float
+floatOfU8 n = ofCount n
+
+module _ {A : Type 0} (float : A → Float) (none : A) where
+  -- An entry of a table as a float.
+  abbrev pub entryAt : List A → ℕ → Float
+  entryAt table i = float (getD table i none)
+
+  -- `interpolate_wave`.
+  unfoldable pub interpolateWave : List A → ℕ → Float → Float
+  interpolateWave table i t =
+      let a = entryAt table i in
+      let b = entryAt table (i + 1) in
+      a ⊕ (b ⊖ a) ⊗ t
+
+  -- "The Hermite reading rounds after every single operation, as `interpolate_wave_hermite` does."
+  unfoldable pub interpolateWaveHermite : List A → ℕ → Float → Float
+  interpolateWaveHermite table i f =
+      let xm1 = entryAt table i in
+      let x0 = entryAt table (i + 1) in
+      let x1 = entryAt table (i + 2) in
+      let x2 = entryAt table (i + 3) in
+      let c = (x1 ⊖ xm1) ⊗ decimal 5 1 in
+      let v = x0 ⊖ x1 in
+      let w = c ⊕ v in
+      let a = w ⊕ v ⊕ (x2 ⊖ x0) ⊗ decimal 5 1 in
+      let b = w ⊕ a in
+      ((a ⊗ f ⊖ b) ⊗ f ⊕ c) ⊗ f ⊕ x0
+
+  -- `interpolate_integrated_wave`.
+  unfoldable pub interpolateIntegratedWave : List A → ℕ → Float → Float
+  interpolateIntegratedWave table i t =
+      let a = entryAt table i in
+      let b = entryAt table (i + 1) in
+      let c = entryAt table (i + 2) in
+      (b ⊖ a) ⊕ (c ⊖ b ⊖ b ⊕ a) ⊗ t

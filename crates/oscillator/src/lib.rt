@@ -1,0 +1,4 @@
+// The source's `oscillator`, with the sine table of its `resources`.
+pub mod sine;
+pub mod sine_oscillator;
+pub mod wavetable_oscillator;

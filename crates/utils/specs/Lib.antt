@@ -1,0 +1,4 @@
+pub mod Utils
+pub mod Units
+pub mod Interpolator
+pub mod Frames

@@ -1,0 +1,84 @@
+-- The whole part of a float by tests of the float: below -1, from 2 ^ 64 on, and as an i32 from the unsigned one.
+use mathlib.Core.Path.{_≡_, refl, sym, ap, _∙_}
+use mathlib.Core.Bool.{Bool, true, false, true≢false, false≢true}
+use Prim.Native.Nat.{ℕ, zero, suc, _+_, _*_, _/_, _≤_, _<_, min}
+use native.Mathlib.Nat.{le-div-iff-mul-le, min-eq-right, min-eq-left, zero-min, zero-div}
+use native.Mathlib.Omega.{arith}
+use borrow.Author.Tests.{ltb-true, ltb-false, lt-ltb, leb-true, leb-false}
+use lib.IntN.{ℤ, pos, negℤ, _-ℤ_, +ℤ-idl}
+use lib.Dec.{ltb, leb, lit≤, lit<}
+use mir.Val.{SFits, toZ, ofZ}
+use mir.Facts.{toZ-pos, toZ-ofZ}
+use mir.Syntax.{w32}
+use lib.Ieee.{Float, nan, inf, fin, up, down, lt, neg, toUnsigned, toSigned}
+use lib.Ieee.Fits.{down-pos}
+
+absurd-tf : {A : Type 0} → true ≡ false → A
+absurd-tf e = absurd (true≢false e)
+
+-- a test that 0 is below something fails, and the something is not 0
+not-zero : {A : Type 0} (n : ℕ) → 0 < n → ltb 0 n ≡ false → A
+not-zero n p h = absurd-tf (sym (lt-ltb 0 n p) ∙ h)
+
+-- -1 < x fails: the whole part is 0
+pub whole-low : (x : Float) → lt (fin true 1 (pos 0)) x ≡ false → toUnsigned 64 x ≡ 0
+unfolding lt toUnsigned
+whole-low nan h = refl
+whole-low (inf true) h = refl
+whole-low (inf false) h = absurd-tf h
+whole-low (fin true m e) h = refl
+whole-low (fin false m e) h = not-zero (1 * down e + m * up e * 1) (omega (arith, down-pos e)) h
+
+-- x is no less than 2 ^ 64: the largest
+pub whole-high : (x : Float) → lt (fin true 1 (pos 0)) x ≡ true → lt x (fin false 1 (pos 64)) ≡ false → toUnsigned 64 x ≡ 18446744073709551615
+unfolding lt toUnsigned
+whole-high nan l h = absurd (false≢true l)
+whole-high (inf true) l h = absurd (false≢true l)
+whole-high (inf false) l h = refl
+whole-high (fin true m e) l h = not-zero (m * up e * 1 + 18446744073709551616 * down e) (omega (arith, down-pos e)) h
+whole-high (fin false m e) l h =
+    let b : 18446744073709551616 * down e ≤ m * up e * 1 = ltb-false (m * up e * 1) (18446744073709551616 * down e) h in
+    let q : 18446744073709551616 ≤ m * up e / down e = le-div-iff-mul-le (down-pos e) .1 (omega arith) in
+    min-eq-right (omega arith)
+
+-- ---- as an i32
+-- a number that was cut at N or not at all, cut at a lower M
+pub cut-twice : (q N M : ℕ) → M ≤ N → min q M ≡ min (min q N) M
+cut-twice q N M h = go (leb q N) refl
+  where
+    go : (b : Bool) → leb q N ≡ b → min q M ≡ min (min q N) M
+    go true e = ap (λ (x : ℕ). min x M) (sym (min-eq-left (leb-true q N e)))
+    go false e =
+        let l : N < q = leb-false q N e in
+        let a : min q M ≡ M = min-eq-right (omega arith) in
+        let b : min q N ≡ N = min-eq-right (omega arith) in
+        a ∙ sym (ap (λ (x : ℕ). min x M) b ∙ min-eq-right h)
+
+-- x is not below 0: as an i32 it is what the unsigned whole part is, cut at the largest
+pub signed-up : (x : Float) → lt x (fin false 0 (pos 0)) ≡ false → toSigned 31 x ≡ pos (min (toUnsigned 64 x) 2147483647)
+unfolding lt toUnsigned toSigned
+signed-up nan h = refl
+signed-up (inf true) h = absurd-tf h
+signed-up (inf false) h = refl
+signed-up (fin true m e) h =
+    let z : m * up e ≡ 0 = omega (arith, ltb-false 0 (m * up e * 1 + 0 * down e) h) in
+    rw (z, zero-div, zero-min)
+signed-up (fin false m e) h = ap pos (cut-twice (m * up e / down e) 18446744073709551615 2147483647 (lit≤ tt))
+
+pub signed-down : (x : Float) → lt x (fin false 0 (pos 0)) ≡ true → toSigned 31 x ≡ negℤ (pos (min (toUnsigned 64 (neg x)) 2147483648))
+unfolding lt toUnsigned toSigned neg
+signed-down nan h = refl
+signed-down (inf true) h = refl
+signed-down (inf false) h = absurd (false≢true h)
+signed-down (fin true m e) h = ap (λ (x : ℕ). negℤ (pos x)) (cut-twice (m * up e / down e) 18446744073709551615 2147483648 (lit≤ tt))
+signed-down (fin false m e) h = absurd (omega (arith, ltb-true (m * up e * 1) (0 * down e) h))
+
+pub neg-mag : (n : ℕ) → n < 2147483648 → SFits w32 (negℤ (pos n))
+neg-mag zero h = record { sfits = lit< tt }
+neg-mag (suc n) h = record { sfits = omega arith }
+
+pub taken-off : (n : ℕ) → n < 2147483648 → toZ w32 (ofZ w32 (pos 0 -ℤ toZ w32 n)) ≡ negℤ (pos n)
+taken-off n h =
+    let t : toZ w32 n ≡ pos n = toZ-pos w32 h in
+    let e : pos 0 -ℤ toZ w32 n ≡ negℤ (pos n) = ap (λ (z : ℤ). pos 0 -ℤ z) t ∙ +ℤ-idl (negℤ (pos n)) in
+    ap (λ (z : ℤ). toZ w32 (ofZ w32 z)) e ∙ toZ-ofZ (neg-mag n h)
