@@ -1,0 +1,6 @@
+-- What the proofs of this crate share.
+pub mod Words
+pub mod Limits
+pub mod Runs
+pub mod Refusals
+pub mod Calls
