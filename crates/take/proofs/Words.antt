@@ -2,16 +2,14 @@
 use mathlib.Core.Path.{_≡_, refl, sym, ap, _∙_}
 use mathlib.Core.List.{List, [], _∷_, _++_, append-nil}
 use mathlib.Core.Bool.{Bool, true, false, _&&_, false≢true}
-use mathlib.Core.Logic.{_⊎_, inl, inr}
-use Prim.Native.Nat.{ℕ, zero, suc, _+_, _-_, _*_, _≤_, _<_, zero-le}
-use native.Mathlib.Nat.{suc-mul, mul-le-mul-right}
+use Prim.Native.Nat.{ℕ, suc, _+_, _-_, _≤_, _<_, zero-le}
 use native.Mathlib.Numerals.{add-one}
 use native.Mathlib.Omega.{arith}
 use borrow.Author.Tests.{eq-eqb, ne-eqb, eqb-true}
 use lib.Dec.{eqb}
-use lib.ListN.{length, take, drop, set, getD, length-set, length-take, length-drop, length-append, drop-of-length-le, take-append-drop}
-use lib.Seq.{take-suc, drop-cons, set-at, length-take-le, append-snoc, take-all, take-take, take-at, drop-at, drop-drop}
-use Rattle.take.specs.Take.{part, put, same}
+use lib.ListN.{length, take, drop, set, getD, length-set, length-take, length-drop, drop-of-length-le}
+use lib.Seq.{take-suc, drop-cons, set-at, length-take-le, append-snoc, take-all}
+use Rattle.take.specs.Take.{put, same}
 
 -- ---- Comparing.
 
