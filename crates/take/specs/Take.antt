@@ -303,7 +303,7 @@ editRefusal s rows k row t = refusalOf (lentNumber s rows t) (scoreRefusal rows 
 
 -- ---- The calls.
 
--- This paper's number and values for each case of an answer; success has number 0.
+-- Document 01's number and values for each case of an answer; success has number 0.
 pub record Result : Type 0 where
   pub number : ℕ
   pub first : ℕ

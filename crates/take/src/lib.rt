@@ -99,7 +99,7 @@ pub fn edit(
 ) -> Answer
     ensures { λ r. ⌜ outcome r (now (rows .exit)) (lent (now (out .exit)) (now (aux .exit)) (now (kept .exit))) ≡ editOf (settings instrument rate frames (now (bank .entry)) (now (map .entry))) (now (rows .entry)) position row (lent (now (out .entry)) (now (aux .entry)) (now (kept .entry))) ⌝ }
 {
-    let refusal = refusal::edit_refusal(
+    let refused = refusal::edit_refusal(
         instrument,
         rate,
         frames,
@@ -112,8 +112,8 @@ pub fn edit(
         aux,
         kept,
     );
-    if refusal.number != 0 {
-        return Answer::Refused(refusal.number, refusal.place);
+    if refused.number != 0 {
+        return Answer::Refused(refused.number, refused.place);
     }
     let equal = same_row(rows, position, row);
     if equal {
@@ -121,7 +121,7 @@ pub fn edit(
     }
     let n = rows.len() / ROW_WORDS;
     put_row(rows, position, row);
-    let count = rows::run_rows(
+    let retaken = rows::run_rows(
         false,
         instrument,
         rate,
@@ -135,5 +135,5 @@ pub fn edit(
         aux,
         kept,
     );
-    Answer::Done(count.rows, count.held)
+    Answer::Done(retaken.rows, retaken.held)
 }

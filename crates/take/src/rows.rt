@@ -25,6 +25,13 @@ const HARMONICS: usize = 3;
 
 const RESTART: usize = 4;
 
+// Whether two words are the same, pattern by pattern: +0 and -0 differ, and so do two NaNs of different patterns.
+fn same_word(old: u32, new: u32) -> bool
+    ensures { λ r. ⌜ r ≡ eqb old new ⌝ }
+{
+    old == new
+}
+
 // Whether two runs of words of one length are the same.
 pub fn same_words(old: &[u32], new: &[u32]) -> bool
     requires { ⌜ length (now old) ≡ length (now new) ⌝ }
@@ -32,10 +39,12 @@ pub fn same_words(old: &[u32], new: &[u32]) -> bool
 {
     let mut i = 0;
     while i < old.len() {
-        if old[i] != new[i] {
+        let equal = same_word(old[i], new[i]);
+        if equal {
+            i += 1;
+        } else {
             return false;
         }
-        i += 1;
     }
     true
 }
@@ -89,7 +98,7 @@ fn parameters(rate: u32, row: [u32; ROW_WORDS]) -> EngineParameters
 // The state that row k begins with.
 fn start(instrument: u32, rate: u32, k: usize, row: [u32; ROW_WORDS], kept: &[u32]) -> voice::State
     requires { ⌜ k < mostRows ⌝ }
-    requires { ⌜ k * keptCount ≤ length (now kept) ⌝ }
+    requires { ⌜ k * keptCount + keptCount ≤ length (now kept) ⌝ }
     ensures { λ r. ⌜ r ≡ startOf instrument rate k row (stateOf instrument (keptBefore (now (kept .entry)) k)) ⌝ }
 {
     if k == 0 {
@@ -309,14 +318,15 @@ fn run(
             kept,
         );
         held += step.held;
-        k += 1;
-        let end = ends(whole, rows, n, k, step.same);
+        let next = k + 1;
+        let end = ends(whole, rows, n, next, step.same);
         if end {
             return Count {
-                rows: k - first,
+                rows: next - first,
                 held,
             };
         }
+        k = next;
     }
 }
 

@@ -29,8 +29,8 @@ add-held c =
     let p = c .before .before .before .before .before .before .before .before .before .before .before .before .before .before .before .before .before .before .before .before .before .before .before .pre .1 .1 .0 in
     omega (arith, c .before .before .before .before .before .before .before .row .ensures .held-most, c .before .before .before .before .before .before .before .before .before .before .before .before .before .before .before .before .before .loop .inv .few, c .before .before .before .before .before .before .before .before .before .before .before .before .before .before .before .before .before .loop .inv .at, p .frames-most, p .rows-most)
 
-add-k : tie.Need-add-k Inv-loop μ-loop
-add-k c =
+add-next : tie.Need-add-next Inv-loop μ-loop
+add-next c =
     let p = c .before .before .before .before .before .before .before .before .before .before .before .before .before .before .before .before .before .before .before .before .before .before .before .pre .1 .1 .0 in
     omega (arith, c .before .before .before .before .before .before .before .before .before .before .before .before .before .before .before .before .before .loop .inv .at, p .rows-most)
 
@@ -38,8 +38,8 @@ ends-requires : tie.Need-ends-requires Inv-loop μ-loop
 ends-requires c κs =
     (omega (arith, c .before .before .before .before .before .before .before .before .before .before .before .before .before .before .before .before .before .loop .inv .at), c .before .before .before .before .before .before .before .before .before .before .before .before .before .before .before .before .before .before .before .before .before .before .before .pre .1 .1 .0 .rows-long)
 
-sub-t39 : tie.Need-sub-t39 Inv-loop μ-loop
-sub-t39 c =
+sub-t40 : tie.Need-sub-t40 Inv-loop μ-loop
+sub-t40 c =
     omega (arith, c .before .before .before .before .before .before .before .before .before .before .before .before .before .before .before .before .before .before .before .loop .inv .from)
 
 same-length : tie.Need-same-length Inv-loop μ-loop
@@ -75,9 +75,9 @@ run-spec =
     loop-holds
     row-requires
     add-held
-    add-k
+    add-next
     ends-requires
-    sub-t39
+    sub-t40
     same-length
     same-length-2
     same-length-3
