@@ -54,10 +54,10 @@ pub fn copy_words(new: &[u32], words: &mut [u32])
     requires { ⌜ length (now new) ≡ length (now words) ⌝ }
     ensures { λ _. ⌜ now (words .exit) ≡ now (new .entry) ⌝ }
 {
-    let mut i = 0;
-    while i < words.len() {
-        words[i] = new[i];
-        i += 1;
+    let mut at = 0;
+    while at < words.len() {
+        words[at] = new[at];
+        at += 1;
     }
 }
 

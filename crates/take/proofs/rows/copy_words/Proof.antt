@@ -8,10 +8,10 @@ use Rattle.take.proofs.rows.copy_words.Statement.{statement}
 use Rattle.take.proofs.rows.copy_words.Tie as tie
 
 abbrev Inv-loop : tie.InvT-loop
-Inv-loop new words₀ i₀ words i = Copied new words₀ words i
+Inv-loop new words₀ at₀ words at = Copied new words₀ words at
 
 abbrev μ-loop : tie.MeasureT-loop
-μ-loop new words₀ i₀ words i = length words₀ - i
+μ-loop new words₀ at₀ words at = length words₀ - at
 
 loop-holds : tie.Need-loop-holds Inv-loop μ-loop
 loop-holds c = copied-none _ _
@@ -28,8 +28,8 @@ mul-words-2 c = search needs
 slice-write-words : tie.Need-slice-write-words Inv-loop μ-loop
 slice-write-words c = search needs
 
-add-i : tie.Need-add-i Inv-loop μ-loop
-add-i c = search needs
+add-at : tie.Need-add-at Inv-loop μ-loop
+add-at c = search needs
 
 loop-less : tie.Need-loop-less Inv-loop μ-loop
 loop-less c = search needs
@@ -56,7 +56,7 @@ copy-words-spec =
     shared-slice-read-words
     mul-words-2
     slice-write-words
-    add-i
+    add-at
     loop-less
     loop-again
     same-length
