@@ -1,11 +1,20 @@
 // Sine lookup table.
 // Based on MIT-licensed code (c) 2016 by Emilie Gillet (emilie.o.gillet@gmail.com)
+ghost use mathlib.Core.Path.{_≡_};
+ghost use Rattle.oscillator.specs.Sine.{lutSine};
 
 // Number of entries of a period.
 pub const LUT_SINE_SIZE: f32 = 512.0;
 
+// The table, to be made once by whoever lends it.
+pub fn sine_table() -> [f32; 641]
+    ensures { λ r. ⌜ r ≡ lutSine ⌝ }
+{
+    LUT_SINE
+}
+
 // Sine data.
-pub const LUT_SINE: [f32; 641] = [
+const LUT_SINE: [f32; 641] = [
     0.000000000e+00,
     1.227153829e-02,
     2.454122852e-02,

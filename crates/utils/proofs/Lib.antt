@@ -1,3 +1,4 @@
 -- What the proofs of this crate share.
 pub mod Magnitude
 pub mod Frames
+pub mod Rising

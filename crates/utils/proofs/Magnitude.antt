@@ -1,12 +1,12 @@
 -- The magnitude of a word's float is the float of the word without its sign's bit, since both are read off the same fields.
-use mathlib.Core.Path.{_≡_, refl, sym, ap, _∙_}
+use mathlib.Core.Path.{_≡_, refl, _∙_}
 use mathlib.Core.Bool.{Bool, true, false, cond}
 use Prim.Native.Nat.{ℕ, zero, suc, _+_, _/_, _%_}
 use native.Mathlib.Nat.{mod-lt, mod-eq-of-lt}
 use borrow.Author.Tests.{lt-leb}
 use lib.Dec.{leb, eqb, lit<}
 use lib.Pow.{mod-mod-pow}
-use lib.Ieee.{Float, nan, inf, fin, binary32, odd, ofFields, ofBits}
+use lib.Ieee.{nan, inf, binary32, odd, ofFields, ofBits}
 use Rattle.utils.specs.Utils.{absOf}
 
 abs-odd : (d : ℕ) (s : Bool) (q k l : ℕ) → absOf (odd d s q k l) ≡ odd d false q k l

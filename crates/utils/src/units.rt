@@ -3,7 +3,7 @@
 ghost use mathlib.Core.Path.{_≡_};
 ghost use lib.ListN.{getD};
 ghost use lib.Ieee.{nan};
-ghost use Rattle.utils.specs.Units.{semitonesToRatio};
+ghost use Rattle.utils.specs.Units.{semitonesToRatio, lutPitchRatioHigh, lutPitchRatioLow};
 
 // The entry of a table, NaN where there is none.
 fn entry(table: &[f32], i: usize) -> f32
@@ -24,7 +24,20 @@ pub fn semitones_to_ratio(high: &[f32; 256], low: &[f32; 256], semitones: f32) -
         * entry(low, words::whole(pitch_fractional * 256.0) as usize)
 }
 
-pub const LUT_PITCH_RATIO_HIGH: [f32; 256] = [
+// The two tables, to be made once by whoever lends them.
+pub fn pitch_ratio_high() -> [f32; 256]
+    ensures { λ r. ⌜ r ≡ lutPitchRatioHigh ⌝ }
+{
+    LUT_PITCH_RATIO_HIGH
+}
+
+pub fn pitch_ratio_low() -> [f32; 256]
+    ensures { λ r. ⌜ r ≡ lutPitchRatioLow ⌝ }
+{
+    LUT_PITCH_RATIO_LOW
+}
+
+const LUT_PITCH_RATIO_HIGH: [f32; 256] = [
     6.151958251e-04,
     6.517772725e-04,
     6.905339660e-04,
@@ -283,7 +296,7 @@ pub const LUT_PITCH_RATIO_HIGH: [f32; 256] = [
     1.534266447e+03,
 ];
 
-pub const LUT_PITCH_RATIO_LOW: [f32; 256] = [
+const LUT_PITCH_RATIO_LOW: [f32; 256] = [
     1.000000000e+00,
     1.000225659e+00,
     1.000451370e+00,

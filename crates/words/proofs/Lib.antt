@@ -1,6 +1,10 @@
 -- What the proofs of this crate share.
 pub mod Floats
+pub mod Words
 pub mod WholeParts
+pub mod WholeWords
 pub mod Rounding
 pub mod Signs
 pub mod Parts
+pub mod Values
+pub mod Bench

@@ -42,16 +42,16 @@ whole-high (fin false m e) l h =
     min-eq-right (omega arith)
 
 -- ---- as an i32
-cut-twice : (q M : ℕ) → M ≤ 18446744073709551615 → min q M ≡ min (min q 18446744073709551615) M
-cut-twice q M h = go (leb q 18446744073709551615) (leb-true q 18446744073709551615) (leb-false q 18446744073709551615) refl
+-- a number that was cut at N or not at all, cut at a lower M
+pub cut-twice : (q N M : ℕ) → M ≤ N → min q M ≡ min (min q N) M
+cut-twice q N M h = go (leb q N) refl
   where
-    go : (b : Bool) → (leb q 18446744073709551615 ≡ true → q ≤ 18446744073709551615) → (leb q 18446744073709551615 ≡ false → 18446744073709551615 < q)
-        → leb q 18446744073709551615 ≡ b → min q M ≡ min (min q 18446744073709551615) M
-    go true f g e = ap (λ (x : ℕ). min x M) (sym (min-eq-left (f e)))
-    go false f g e =
-        let l : 18446744073709551615 < q = g e in
+    go : (b : Bool) → leb q N ≡ b → min q M ≡ min (min q N) M
+    go true e = ap (λ (x : ℕ). min x M) (sym (min-eq-left (leb-true q N e)))
+    go false e =
+        let l : N < q = leb-false q N e in
         let a : min q M ≡ M = min-eq-right (omega arith) in
-        let b : min q 18446744073709551615 ≡ 18446744073709551615 = min-eq-right (omega arith) in
+        let b : min q N ≡ N = min-eq-right (omega arith) in
         a ∙ sym (ap (λ (x : ℕ). min x M) b ∙ min-eq-right h)
 
 -- x is not below 0: as an i32 it is what the unsigned whole part is, cut at the largest
@@ -63,14 +63,14 @@ signed-up (inf false) h = refl
 signed-up (fin true m e) h =
     let z : m * up e ≡ 0 = omega (arith, ltb-false 0 (m * up e * 1 + 0 * down e) h) in
     rw (z, zero-div, zero-min)
-signed-up (fin false m e) h = ap pos (cut-twice (m * up e / down e) 2147483647 (lit≤ tt))
+signed-up (fin false m e) h = ap pos (cut-twice (m * up e / down e) 18446744073709551615 2147483647 (lit≤ tt))
 
 pub signed-down : (x : Float) → lt x (fin false 0 (pos 0)) ≡ true → toSigned 31 x ≡ negℤ (pos (min (toUnsigned 64 (neg x)) 2147483648))
 unfolding lt toUnsigned toSigned neg
 signed-down nan h = refl
 signed-down (inf true) h = refl
 signed-down (inf false) h = absurd (false≢true h)
-signed-down (fin true m e) h = ap (λ (x : ℕ). negℤ (pos x)) (cut-twice (m * up e / down e) 2147483648 (lit≤ tt))
+signed-down (fin true m e) h = ap (λ (x : ℕ). negℤ (pos x)) (cut-twice (m * up e / down e) 18446744073709551615 2147483648 (lit≤ tt))
 signed-down (fin false m e) h = absurd (omega (arith, ltb-true (m * up e * 1) (0 * down e) h))
 
 pub neg-mag : (n : ℕ) → n < 2147483648 → SFits w32 (negℤ (pos n))

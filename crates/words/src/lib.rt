@@ -1,7 +1,10 @@
 // Words and floats: a float's word, a word's float, whole parts, and whole numbers as floats.
 ghost use mathlib.Core.Path.{_≡_};
-ghost use Prim.Native.Nat.{compare, _*_, _/_, _≤_, _<_};
-ghost use lib.Ieee.{binary32, toBits, ofBits, toUnsigned, toSigned, ofInt, nearest};
+ghost use Prim.Native.Nat.{compare, min, _*_, _/_, _≤_, _<_};
+ghost use mathlib.Core.Bool.{cond};
+ghost use lib.Dec.{ltb};
+ghost use lib.IntN.{pos, negℤ};
+ghost use lib.Ieee.{binary32, toBits, ofBits, toUnsigned, toSigned, ofInt, nearest, neg, lt};
 ghost use Rattle.words.specs.Binary32.{ofCount};
 ghost use Rattle.words.specs.Parts.{wholeFloat, wholeI32Float, partOf};
 ghost use Rattle.words.specs.Scale.{Scaled};
@@ -117,18 +120,79 @@ pub fn float_of_i32(n: i32) -> f32
     }
 }
 
+// A word with the whole part of x: its own where x is above a half, else that of a half.
+fn up_word(x: f32) -> u32
+    ensures { λ r. ⌜ (toUnsigned 64 (ofBits binary32 r) ≡ toUnsigned 64 x) × (r ≤ 2139095040) ⌝ }
+{
+    if x > 0.5 { f32::to_bits(x) } else { 0x3f000000 }
+}
+
+// A word from 0.5 to below 2 to the power 23, with the whole part of b held there.
+fn held_word(b: u32) -> u32
+    requires { ⌜ b ≤ 2139095040 ⌝ }
+    ensures { λ r. ⌜ toUnsigned 64 (ofBits binary32 r) ≡ min (toUnsigned 64 (ofBits binary32 b)) 8388607 ⌝ }
+    ensures { λ r. ⌜ (1056964608 ≤ r) × (r < 1258291200) ⌝ }
+{
+    if b > 0x4affffff {
+        0x4affffff
+    } else if b < 0x3f000000 {
+        0x3f000000
+    } else {
+        b
+    }
+}
+
+// The whole part of such a word: its significand, shifted by what its exponent lacks.
+fn word_whole(b: u32) -> u32
+    requires { ⌜ (1056964608 ≤ b) × (b < 1258291200) ⌝ }
+    ensures { λ r. ⌜ r ≡ toUnsigned 64 (ofBits binary32 b) ⌝ }
+{
+    (8388608 + b % 8388608) >> (150 - b / 8388608)
+}
+
+// The whole part of a float, held at 2 to the power 23 less 1: no branch on the float.
+fn small_whole(x: f32) -> u32
+    ensures { λ r. ⌜ r ≡ min (toUnsigned 64 x) 8388607 ⌝ }
+{
+    word_whole(held_word(up_word(x)))
+}
+
 // The whole part of a float, as a float.
 pub fn whole_float(x: f32) -> f32
     ensures { λ r. ⌜ r ≡ wholeFloat x ⌝ }
 {
-    float_of_u64(whole(x))
+    if x < 8388608.0 {
+        small_whole(x) as f32
+    } else {
+        float_of_u64(whole(x))
+    }
+}
+
+// x or -x, whichever is not below 0.
+fn magnitude(x: f32) -> f32
+    ensures { λ r. ⌜ r ≡ cond (lt x (ofBits binary32 0)) (neg x) x ⌝ }
+{
+    if x < 0.0 { -x } else { x }
+}
+
+// n with the sign of x.
+fn signed(x: f32, n: u32) -> i32
+    requires { ⌜ n ≤ 8388607 ⌝ }
+    ensures { λ r. ⌜ r ≡ cond (lt x (ofBits binary32 0)) (negℤ (pos n)) (pos n) ⌝ }
+{
+    if x < 0.0 { 0 - (n as i32) } else { n as i32 }
 }
 
 // The whole part of a float as an i32, as a float.
 pub fn whole_i32_float(x: f32) -> f32
     ensures { λ r. ⌜ r ≡ wholeI32Float x ⌝ }
 {
-    float_of_i32(whole_i32(x))
+    let m = magnitude(x);
+    if m < 8388608.0 {
+        signed(x, small_whole(m)) as f32
+    } else {
+        float_of_i32(whole_i32(x))
+    }
 }
 
 // A position: its whole part, its fraction, and whether the whole part was held at its top.
@@ -138,22 +202,33 @@ pub struct Part {
     pub held: bool,
 }
 
+// A number that tells the whole part of x from no other up to `top`, and lies above `top` where it does.
+fn reach(x: f32, top: usize) -> usize
+    ensures { λ r. ⌜ (min r top ≡ min (toUnsigned 64 x) top) × (ltb top r ≡ ltb top (toUnsigned 64 x)) ⌝ }
+{
+    if top < 8388607 {
+        small_whole(x) as usize
+    } else {
+        whole(x) as usize
+    }
+}
+
+// The smaller of two numbers.
+fn least(a: usize, b: usize) -> usize
+    ensures { λ r. ⌜ r ≡ min a b ⌝ }
+{
+    if a < b { a } else { b }
+}
+
 // A position whose whole part is held at `top`.
 pub fn held_part(x: f32, top: usize) -> Part
     ensures { λ r. ⌜ r ≡ partOf top x ⌝ }
 {
-    let n = whole(x) as usize;
-    if n > top {
-        Part {
-            whole: top,
-            fraction: x - float_of_u64(top as u64),
-            held: true,
-        }
-    } else {
-        Part {
-            whole: n,
-            fraction: x - float_of_u64(n as u64),
-            held: false,
-        }
+    let n = reach(x, top);
+    let whole = least(n, top);
+    Part {
+        whole,
+        fraction: x - float_of_u64(whole as u64),
+        held: n > top,
     }
 }

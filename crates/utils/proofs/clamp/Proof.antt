@@ -1,17 +1,13 @@
+-- `utils::clamp` meets its contract.
 use Rattle.utils.proofs.clamp.Statement.{statement}
 use Rattle.utils.proofs.clamp.Tie as tie
-use Rattle.utils.proofs.clamp.Reads as reads
-use Rattle.utils.proofs.clamp.Lts as lts
 
--- src/lib.rt:13:1
 returns : tie.Need-returns
 returns c = simp (c .if1 .taken)
 
--- src/lib.rt:13:1
 returns-2 : tie.Need-returns-2
 returns-2 c = simp (c .before .if1 .left, c .if2 .taken)
 
--- src/lib.rt:13:1
 returns-3 : tie.Need-returns-3
 returns-3 c = simp (c .before .if1 .left, c .if2 .left)
 

@@ -1,18 +1,14 @@
+-- `utils::min` meets its contract.
 use Rattle.words.proofs.Floats.{nan-by, no-nan-by}
 use Rattle.utils.proofs.min.Statement.{statement}
 use Rattle.utils.proofs.min.Tie as tie
-use Rattle.utils.proofs.min.Reads as reads
-use Rattle.utils.proofs.min.Lts as lts
 
--- src/lib.rt:26:1
 returns : tie.Need-returns
 returns c = simp (nan-by _ (c .if1 .taken))
 
--- src/lib.rt:26:1
 returns-2 : tie.Need-returns-2
 returns-2 c = simp (no-nan-by _ (c .before .if1 .left), c .if2 .taken)
 
--- src/lib.rt:26:1
 returns-3 : tie.Need-returns-3
 returns-3 c = simp (no-nan-by _ (c .before .if1 .left), c .if2 .left)
 

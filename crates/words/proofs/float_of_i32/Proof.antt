@@ -1,13 +1,8 @@
 -- `words::float_of_i32` meets its contract: of a number below 0, the magnitude is rounded and the sign put on, since rounding goes by the magnitude.
-use mathlib.Core.Path.{_≡_, sym, ap, _∙_, subst}
-use Prim.Native.Nat.{ℕ}
+use mathlib.Core.Path.{sym, ap, _∙_}
 use borrow.Author.Needs.{needs}
-use lib.Dec.{T}
-use lib.IntN.{ℤ, pos, negsuc, natAbs}
-use lib.Signed.{nonNeg}
-use lib.Ieee.{Float, binary32, neg, ofInt}
-use mir.Syntax.{w64}
-use mir.Val.{Fits, SFits, toZ, ofZ}
+use lib.IntN.{ℤ, pos, natAbs}
+use lib.Ieee.{binary32, neg, ofInt}
 use mir.Facts.{toZ-ofZ, sfits-widen, fits-natAbs}
 use Rattle.words.proofs.Signs.{below-zero, not-below, taken-fits, taken-is, ofInt-neg}
 use Rattle.words.proofs.float_of_i32.Statement.{statement}

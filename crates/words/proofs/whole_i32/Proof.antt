@@ -1,41 +1,32 @@
+-- `words::whole_i32` meets its contract.
 use borrow.Author.Needs.{needs}
-use mathlib.Core.Path.{_≡_, sym, ap, _∙_, subst}
-use Prim.Native.Nat.{ℕ, min, _<_, _≤_}
+use mathlib.Core.Path.{_≡_, sym, ap, _∙_}
+use Prim.Native.Nat.{ℕ, min}
 use native.Mathlib.Nat.{min-eq-left, min-eq-right}
 use native.Mathlib.Omega.{arith}
-use lib.IntN.{ℤ, pos, negℤ, +ℤ-idl}
-use lib.Ieee.{Float, ofBits, neg, toUnsigned}
+use lib.IntN.{pos, negℤ, +ℤ-idl}
+use lib.Ieee.{ofBits, neg, toUnsigned}
 use mir.Syntax.{w32}
-use mir.Val.{SFits, toZ}
-use mir.Facts.{toZ-pos, toZ-ofZ}
+use mir.Facts.{toZ-pos}
 use Rattle.words.proofs.WholeParts.{signed-up, signed-down, neg-mag, taken-off}
 use Rattle.words.proofs.whole_i32.Statement.{statement}
 use Rattle.words.proofs.whole_i32.Tie as tie
-use Rattle.words.proofs.whole_i32.Reads as reads
-use Rattle.words.proofs.whole_i32.Lts as lts
-use Rattle.words.proofs.whole.Reads as whole-reads
 
--- src/lib.rt:45:13
 whole-requires : tie.Need-whole-requires
 whole-requires c κs = search needs
 
--- src/lib.rt:46:34
 cast-result : tie.Need-cast-result
 cast-result c = search needs
 
--- src/lib.rt:46:29
 sub-result : tie.Need-sub-result
 sub-result c = rw (toZ-pos w32 (c .if2 .taken), +ℤ-idl) (neg-mag _ (c .if2 .taken))
 
--- src/lib.rt:48:13
 whole-requires-2 : tie.Need-whole-requires-2
 whole-requires-2 c κs = search needs
 
--- src/lib.rt:49:29
 cast-result-2 : tie.Need-cast-result-2
 cast-result-2 c = search needs
 
--- src/lib.rt:41:1
 returns : tie.Need-returns
 unfolding ofBits
 returns c =
@@ -45,7 +36,6 @@ returns c =
     let m : min (toUnsigned 64 (neg x)) 2147483648 ≡ n = ap (λ (y : ℕ). min y 2147483648) (sym e) ∙ min-eq-left (omega (arith, c .if2 .taken)) in
     taken-off n (c .if2 .taken) ∙ sym (signed-down x (c .before .before .if1 .taken) ∙ ap (λ (y : ℕ). negℤ (pos y)) m)
 
--- src/lib.rt:41:1
 returns-2 : tie.Need-returns-2
 unfolding ofBits
 returns-2 c =
@@ -54,7 +44,6 @@ returns-2 c =
     let m : min (toUnsigned 64 (neg x)) 2147483648 ≡ 2147483648 = ap (λ (y : ℕ). min y 2147483648) (sym e) ∙ min-eq-right (c .if2 .left) in
     sym (signed-down x (c .before .before .if1 .taken) ∙ ap (λ (y : ℕ). negℤ (pos y)) m)
 
--- src/lib.rt:41:1
 returns-3 : tie.Need-returns-3
 unfolding ofBits
 returns-3 c =
@@ -64,7 +53,6 @@ returns-3 c =
     let m : min (toUnsigned 64 x) 2147483647 ≡ n = ap (λ (y : ℕ). min y 2147483647) (sym e) ∙ min-eq-left (omega (arith, c .if3 .taken)) in
     toZ-pos w32 (c .if3 .taken) ∙ sym (signed-up x (c .before .before .if1 .left) ∙ ap pos m)
 
--- src/lib.rt:41:1
 returns-4 : tie.Need-returns-4
 unfolding ofBits
 returns-4 c =

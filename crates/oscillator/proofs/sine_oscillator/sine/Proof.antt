@@ -1,20 +1,30 @@
+-- `oscillator::sine_oscillator::sine` meets its contract.
 use lib.Ieee.{ofBits}
-use Rattle.words.specs.Binary32.{decimal}
 use borrow.Author.Needs.{needs}
+use Rattle.words.specs.Binary32.{decimal}
 use Rattle.oscillator.proofs.sine_oscillator.sine.Statement.{statement}
 use Rattle.oscillator.proofs.sine_oscillator.sine.Tie as tie
-use Rattle.oscillator.proofs.sine_oscillator.sine.Reads as reads
-use Rattle.oscillator.proofs.sine_oscillator.sine.Lts as lts
-use Rattle.utils.proofs.interpolate_wrap.Reads as interpolate-wrap-reads
 
--- src/sine_oscillator.rt:10:5
-interpolate-wrap-requires : tie.Need-interpolate-wrap-requires
-interpolate-wrap-requires c κs = search needs
-
--- src/sine_oscillator.rt:7:1
-returns : tie.Need-returns
+near-sine-requires : tie.Need-near-sine-requires
 unfolding ofBits decimal
-returns c = c .interpolate-wrap .ensures
+near-sine-requires c κs = (search needs, (c .before .before .if1 .taken, c .before .if2 .taken))
+
+far-sine-requires : tie.Need-far-sine-requires
+far-sine-requires c κs = search needs
+
+far-sine-requires-2 : tie.Need-far-sine-requires-2
+far-sine-requires-2 c κs = search needs
+
+returns : tie.Need-returns
+returns c = search needs
+
+returns-2 : tie.Need-returns-2
+returns-2 c = search needs
+
+returns-3 : tie.Need-returns-3
+returns-3 c = search needs
 
 pub sine-spec : {M : Type 1} → statement M
-sine-spec = tie.close (tie.spec interpolate-wrap-requires returns)
+sine-spec =
+    tie.close
+    (tie.spec near-sine-requires far-sine-requires far-sine-requires-2 returns returns-2 returns-3)

@@ -1,32 +1,25 @@
+-- `oscillator::wavetable_oscillator::interpolate_wave_u8` meets its contract.
 use mathlib.Core.Path.{refl}
-use Rattle.oscillator.specs.Readings.{interpolateWave}
 use borrow.Author.Needs.{needs}
+use Rattle.oscillator.specs.Readings.{interpolateWave}
 use Rattle.oscillator.proofs.wavetable_oscillator.interpolate_wave_u8.Statement.{statement}
 use Rattle.oscillator.proofs.wavetable_oscillator.interpolate_wave_u8.Tie as tie
-use Rattle.oscillator.proofs.wavetable_oscillator.interpolate_wave_u8.Reads as reads
-use Rattle.oscillator.proofs.wavetable_oscillator.interpolate_wave_u8.Lts as lts
 
--- src/wavetable_oscillator.rt:37:13
 shared-slice-read-a : tie.Need-shared-slice-read-a
 shared-slice-read-a c = search needs
 
--- src/wavetable_oscillator.rt:37:13
 int-to-float-a : tie.Need-int-to-float-a
 int-to-float-a c = search needs
 
--- src/wavetable_oscillator.rt:38:19
 add-b : tie.Need-add-b
 add-b c = search needs
 
--- src/wavetable_oscillator.rt:38:13
 shared-slice-read-b : tie.Need-shared-slice-read-b
 shared-slice-read-b c = search needs
 
--- src/wavetable_oscillator.rt:38:13
 int-to-float-b : tie.Need-int-to-float-b
 int-to-float-b c = search needs
 
--- src/wavetable_oscillator.rt:33:1
 returns : tie.Need-returns
 unfolding interpolateWave
 returns c = refl

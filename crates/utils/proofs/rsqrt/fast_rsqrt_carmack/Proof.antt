@@ -1,35 +1,29 @@
+-- `utils::rsqrt::fast_rsqrt_carmack` meets its contract.
 use denote.Floats.{passes}
 use native.Mathlib.Omega.{arith}
 use lib.IntN.{pos}
 use lib.Ieee.{div, ofBits}
 use Rattle.words.specs.Binary32.{decimal}
-use Rattle.words.proofs.Floats.{above-no-nan, plus-word-most, no-nan-bits}
 use Rattle.utils.specs.Utils.{fastRsqrtCarmack}
+use Rattle.words.proofs.Floats.{above-no-nan, plus-word-most, no-nan-bits}
 use Rattle.utils.proofs.rsqrt.fast_rsqrt_carmack.Statement.{statement}
 use Rattle.utils.proofs.rsqrt.fast_rsqrt_carmack.Tie as tie
-use Rattle.utils.proofs.rsqrt.fast_rsqrt_carmack.Reads as reads
-use Rattle.utils.proofs.rsqrt.fast_rsqrt_carmack.Lts as lts
 
--- src/rsqrt.rt:11:45
 float-to-bits-y : tie.Need-float-to-bits-y
 float-to-bits-y c = above-no-nan _ _ (c .if1 .taken)
 
--- src/rsqrt.rt:11:32
 sub-y : tie.Need-sub-y
 unfolding ofBits
 sub-y c = omega (arith, plus-word-most 0 (pos 0) _ (passes _ (c .before .good .0 .1)) (c .if1 .taken))
 
--- src/rsqrt.rt:11:17
 float-from-bits-y : tie.Need-float-from-bits-y
 unfolding ofBits
 float-from-bits-y c = no-nan-bits _ (omega (arith, plus-word-most 0 (pos 0) _ (passes _ (c .before .good .0 .1)) (c .if1 .taken)))
 
--- src/rsqrt.rt:7:1
 returns : tie.Need-returns
 unfolding fastRsqrtCarmack ofBits decimal
 returns c = simp (c .if1 .taken)
 
--- src/rsqrt.rt:7:1
 returns-2 : tie.Need-returns-2
 unfolding fastRsqrtCarmack div ofBits decimal
 returns-2 c = simp (c .if1 .left)

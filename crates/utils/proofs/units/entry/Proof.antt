@@ -1,25 +1,20 @@
+-- `utils::units::entry` meets its contract.
 use mathlib.Core.Path.{sym}
 use lib.ListN.{List·getD-eq-default}
 use lib.Ieee.{nan, div, ofBits}
 use borrow.Author.Needs.{needs}
 use Rattle.utils.proofs.units.entry.Statement.{statement}
 use Rattle.utils.proofs.units.entry.Tie as tie
-use Rattle.utils.proofs.units.entry.Reads as reads
-use Rattle.utils.proofs.units.entry.Lts as lts
 
--- src/units.rt:13:9
 mul-result : tie.Need-mul-result
 mul-result c = search needs
 
--- src/units.rt:13:9
 shared-slice-read-result : tie.Need-shared-slice-read-result
 shared-slice-read-result c = search needs
 
--- src/units.rt:9:1
 returns : tie.Need-returns
 returns c = search needs
 
--- src/units.rt:9:1
 returns-2 : tie.Need-returns-2
 unfolding div ofBits
 returns-2 c = sym (List·getD-eq-default (c .before .args .table .now) nan (c .if1 .left))

@@ -1,17 +1,13 @@
+-- `oscillator::wavetable_oscillator::Differentiator::process` meets its contract.
 use borrow.Author.Needs.{needs}
+use Rattle.oscillator.proofs.wavetable_oscillator.Differentiator.process.Tie as tie
 use Rattle.oscillator.proofs.wavetable_oscillator.Differentiator.process.Statement.{
   statement,
 }
-use Rattle.oscillator.proofs.wavetable_oscillator.Differentiator.process.Tie as tie
-use Rattle.oscillator.proofs.wavetable_oscillator.Differentiator.process.Reads as reads
-use Rattle.oscillator.proofs.wavetable_oscillator.Differentiator.process.Lts as lts
-use Rattle.utils.proofs.one_pole.Reads as one-pole-reads
 
--- src/wavetable_oscillator.rt:24:13
 one-pole-requires : tie.Need-one-pole-requires
 one-pole-requires c κs = search needs
 
--- src/wavetable_oscillator.rt:21:5
 returns : tie.Need-returns
 returns c = rw (c .one-pole .ensures)
 

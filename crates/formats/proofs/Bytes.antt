@@ -1,0 +1,171 @@
+-- Laws of bytes that a loop writes from the front: what is left to write, after what is written, is the whole.
+use mathlib.Core.Path.{_≡_, refl, sym, ap, _∙_}
+use mathlib.Core.List.{List, [], _∷_, _++_, append-assoc, append-nil}
+use mathlib.Core.Bool.{Bool, true, false, cond}
+use Prim.Native.Nat.{ℕ, zero, suc, _+_, _-_, _*_, _/_, _%_, _≤_, _<_, zero-le}
+use native.Mathlib.Nat.{zero-add}
+use native.Mathlib.Numerals.{add-one}
+use native.Mathlib.Omega.{arith}
+use borrow.Author.Tests.{lt-ltb, le-ltb}
+use lib.Dec.{ltb}
+use lib.IntN.{ℤ, pos, negsuc, _-ℤ_}
+use mir.Syntax.{w16}
+use mir.Val.{SFits, toZ, ofZ}
+use mir.Facts.{toZ-pos, toZ-ofZ}
+use lib.ListN.{length, getD, take, drop, set, length-append, length-drop, length-set, drop-of-length-le, take-append-drop}
+use lib.Seq.{drop-cons, take-at, take-all, take-suc-set, append-snoc, set-at, length-take-le, drop-drop}
+use Rattle.formats.specs.Formats.{put, digits, digit, bytesOf, lowFirst, i16Of, samplesOf}
+
+-- four bytes in the place of four
+pub four : (l : List ℕ) (a b c d : ℕ) → length l ≡ 4 → set (set (set (set l 0 a) 1 b) 2 c) 3 d ≡ a ∷ b ∷ c ∷ d ∷ []
+four [] a b c d h = absurd (omega arith)
+four (w ∷ []) a b c d h = absurd (omega arith)
+four (w ∷ x ∷ []) a b c d h = absurd (omega arith)
+four (w ∷ x ∷ y ∷ []) a b c d h = absurd (omega arith)
+four (w ∷ x ∷ y ∷ z ∷ []) a b c d h = refl
+four (w ∷ x ∷ y ∷ z ∷ v ∷ l) a b c d h = absurd (omega arith)
+
+-- ---- words
+pub record WordsLeft (words bytes : List ℕ) (n i : ℕ) : Type 0 where
+  pub at : i ≤ length words
+  pub long : length bytes ≡ n
+  pub left : take (i * 4) bytes ++ lowFirst (drop i words) ≡ lowFirst words
+
+pub words-begin : (words bytes : List ℕ) → WordsLeft words bytes (length bytes) 0
+words-begin words bytes = record { at = zero-le; long = refl; left = refl }
+
+pub words-go-on : (words bytes : List ℕ) (n i : ℕ) → n ≡ length words * 4 → i < length words → WordsLeft words bytes n i
+    → WordsLeft words (take (i * 4) bytes ++ (bytesOf (getD words i 0) ++ drop 4 (drop (i * 4) bytes))) n (i + 1)
+unfolding lowFirst
+words-go-on words bytes n i e l p =
+    let k : length (take (i * 4) bytes) ≡ i * 4 = length-take-le (i * 4) bytes (omega (arith, p .long)) in
+    let w = bytesOf (getD words i 0) in
+    let new = take (i * 4) bytes ++ (w ++ drop 4 (drop (i * 4) bytes)) in
+    let m : length (take (i * 4) bytes ++ w) ≡ (i + 1) * 4 = rw (length-append) (omega arith) in
+    let t : take ((i + 1) * 4) new ≡ take (i * 4) bytes ++ w = rw (sym (append-assoc (take (i * 4) bytes) w (drop 4 (drop (i * 4) bytes)))) (take-at (take (i * 4) bytes ++ w) (drop 4 (drop (i * 4) bytes)) ((i + 1) * 4) m) in
+    record {
+      at = omega arith;
+      long = rw (length-append, length-append, length-drop, length-drop) (omega (arith, p .long));
+      left = rw (t, add-one, append-assoc) (rw (drop-cons words i 0 l) at (p .left));
+    }
+
+pub words-end : (words bytes : List ℕ) (n i : ℕ) → n ≡ length words * 4 → length words ≤ i → WordsLeft words bytes n i → bytes ≡ lowFirst words
+unfolding lowFirst
+words-end words bytes n i e l p =
+    let d : drop i words ≡ [] = drop-of-length-le words l in
+    let t : take (i * 4) bytes ≡ bytes = take-all (i * 4) bytes (omega (arith, p .long)) in
+    sym (append-nil bytes) ∙ (rw (d, t) at (p .left))
+
+-- ---- samples
+pub record SamplesLeft (bytes : List ℕ) (samples : List ℤ) (n i : ℕ) : Type 0 where
+  pub at : i ≤ n
+  pub long : length samples ≡ n
+  pub left : take i samples ++ samplesOf (drop (i * 2) bytes) ≡ samplesOf bytes
+
+pub samples-begin : (bytes : List ℕ) (samples : List ℤ) → SamplesLeft bytes samples (length samples) 0
+samples-begin bytes samples = record { at = zero-le; long = refl; left = refl }
+
+pub samples-go-on : (bytes : List ℕ) (samples : List ℤ) (n i : ℕ) → length bytes ≡ n * 2 → i < n → SamplesLeft bytes samples n i
+    → SamplesLeft bytes (set samples i (i16Of (getD bytes (i * 2) 0 + 256 * getD bytes (i * 2 + 1) 0))) n (i + 1)
+unfolding samplesOf
+samples-go-on bytes samples n i e l p =
+    let v = i16Of (getD bytes (i * 2) 0 + 256 * getD bytes (i * 2 + 1) 0) in
+    let k : suc (i * 2 + 1) ≡ (i + 1) * 2 = omega arith in
+    let a : drop (i * 2) bytes ≡ getD bytes (i * 2) 0 ∷ drop (suc (i * 2)) bytes = drop-cons bytes (i * 2) 0 (omega arith) in
+    let b : drop (suc (i * 2)) bytes ≡ getD bytes (i * 2 + 1) 0 ∷ drop ((i + 1) * 2) bytes =
+    drop-cons bytes (suc (i * 2)) 0 (omega arith) ∙ ap (λ (j : ℕ). getD bytes j 0 ∷ drop (suc j) bytes) (sym (add-one (i * 2))) ∙ ap (λ (j : ℕ). getD bytes (i * 2 + 1) 0 ∷ drop j bytes) k in
+    record {
+      at = omega arith;
+      long = length-set samples i v ∙ p .long;
+      left =
+          ap (λ (xs : List ℤ). xs ++ samplesOf (drop ((i + 1) * 2) bytes)) (ap (λ (j : ℕ). take j (set samples i v)) (add-one i) ∙ take-suc-set samples i v (omega (arith, p .long)))
+          ∙ append-snoc (take i samples) v (samplesOf (drop ((i + 1) * 2) bytes))
+          ∙ (rw (a, b) at (p .left));
+    }
+
+pub samples-end : (bytes : List ℕ) (samples : List ℤ) (n i : ℕ) → length bytes ≡ n * 2 → n ≤ i → SamplesLeft bytes samples n i → samples ≡ samplesOf bytes
+unfolding samplesOf
+samples-end bytes samples n i e l p =
+    let m : length bytes ≤ i * 2 = omega arith in
+    let d : drop (i * 2) bytes ≡ [] = drop-of-length-le bytes m in
+    let t : take i samples ≡ samples = take-all i samples (omega (arith, p .long)) in
+    sym (append-nil samples) ∙ (rw (d, t) at (p .left))
+
+-- ---- digits
+pub digits-most : (k n : ℕ) → length (digits k n) ≤ suc k
+unfolding digits
+digits-most zero n = zero-le-one
+  where
+    zero-le-one : 1 ≤ 1
+    zero-le-one = omega arith
+digits-most (suc k) n = pick (ltb n 10) (digits-most k (n / 10))
+  where
+    pick : (b : Bool) → length (digits k (n / 10)) ≤ suc k → length (cond b (digit n ∷ []) (digits k (n / 10) ++ digit (n % 10) ∷ [])) ≤ suc (suc k)
+    pick true h = omega arith
+    pick false h = rw (length-append) (omega arith)
+
+-- a byte put behind those that were put
+pub put-more : (l : List ℕ) (a : ℕ) (ys : List ℕ) (d : ℕ) → a + length ys < length l → set (put l a ys) (a + length ys) d ≡ put l a (ys ++ d ∷ [])
+put-more l a ys d h =
+    let n = a + length ys in
+    let k : length (take a l ++ ys) ≡ n = rw (length-append, length-take-le a l (omega arith)) refl in
+    let e : drop (length ys) (drop a l) ≡ getD l n 0 ∷ drop (suc n) l = drop-drop (length ys) a l ∙ drop-cons l n 0 h in
+    let s : put l a ys ≡ (take a l ++ ys) ++ getD l n 0 ∷ drop (suc n) l = ap (λ (r : List ℕ). take a l ++ (ys ++ r)) e ∙ sym (append-assoc (take a l) ys (getD l n 0 ∷ drop (suc n) l)) in
+    let j : a + length (ys ++ d ∷ []) ≡ suc n = rw (length-append) (omega arith) in
+    let r : drop (length (ys ++ d ∷ [])) (drop a l) ≡ drop (suc n) l = drop-drop (length (ys ++ d ∷ [])) a l ∙ ap (λ (j : ℕ). drop j l) j in
+    ap (λ (x : List ℕ). set x n d) s
+    ∙ set-at (take a l ++ ys) (getD l n 0) (drop (suc n) l) d n k
+    ∙ append-assoc (take a l) ys (d ∷ drop (suc n) l)
+    ∙ ap (λ (x : List ℕ). take a l ++ x) (sym (ap (λ (x : List ℕ). (ys ++ d ∷ []) ++ x) r ∙ append-snoc ys d (drop (suc n) l)))
+
+pub put-one : (l : List ℕ) (a d : ℕ) → a < length l → set l a d ≡ put l a (d ∷ [])
+put-one l a d h =
+    let e : put l a [] ≡ l = take-append-drop a l in
+    let z : a + 0 ≡ a = omega arith in
+    sym (ap (λ (x : List ℕ). set x (a + 0) d) e ∙ ap (λ (j : ℕ). set l j d) z) ∙ put-more l a [] d (omega arith)
+
+-- ---- the cases of the digits
+pub digits-last : (k n : ℕ) → n < 10 → digits (suc k) n ≡ digit n ∷ []
+unfolding digits
+digits-last k n h = ap (λ (b : Bool). cond b (digit n ∷ []) (digits k (n / 10) ++ digit (n % 10) ∷ [])) (lt-ltb n 10 h)
+
+pub digits-more : (k n : ℕ) → 10 ≤ n → digits (suc k) n ≡ digits k (n / 10) ++ digit (n % 10) ∷ []
+unfolding digits
+digits-more k n h = ap (λ (b : Bool). cond b (digit n ∷ []) (digits k (n / 10) ++ digit (n % 10) ∷ [])) (le-ltb n 10 h)
+
+-- ---- what `put_digits` does in each of its cases
+pub put-zero : (l : List ℕ) (a k n : ℕ) → k ≡ 0 → a < length l → (a + 1 ≡ a + length (digits k n)) × (set l a (digit (n % 10)) ≡ put l a (digits k n))
+unfolding digits
+put-zero l a k n e h = rw e (refl, put-one l a (digit (n % 10)) h)
+
+above-zero : (k : ℕ) → (k ≡ 0 → ⊥) → k ≡ suc (k - 1)
+above-zero zero h = absurd (h refl)
+above-zero (suc k) h = omega arith
+
+pub put-last : (l : List ℕ) (a k n : ℕ) → (k ≡ 0 → ⊥) → n < 10 → a < length l → (a + 1 ≡ a + length (digits k n)) × (set l a (digit n) ≡ put l a (digits k n))
+put-last l a k n z s h =
+    let e : digits k n ≡ digit n ∷ [] = ap (λ (j : ℕ). digits j n) (above-zero k z) ∙ digits-last (k - 1) n s in
+    rw e (refl, put-one l a (digit n) h)
+
+pub put-next : (l m : List ℕ) (a k n r : ℕ) → (k ≡ 0 → ⊥) → 10 ≤ n → a + k < length l → r ≡ a + length (digits (k - 1) (n / 10)) → m ≡ put l a (digits (k - 1) (n / 10))
+    → (r + 1 ≡ a + length (digits k n)) × (set m r (digit (n % 10)) ≡ put l a (digits k n))
+put-next l m a k n r z s h p q =
+    let e : digits k n ≡ digits (k - 1) (n / 10) ++ digit (n % 10) ∷ [] = ap (λ (j : ℕ). digits j n) (above-zero k z) ∙ digits-more (k - 1) n s in
+    let b : a + length (digits (k - 1) (n / 10)) < length l = omega (arith, digits-most (k - 1) (n / 10), above-zero k z) in
+    let f : r + 1 ≡ a + length (digits (k - 1) (n / 10) ++ digit (n % 10) ∷ []) = rw (length-append) (omega arith) in
+    (rw e f, rw (e, p, q) (put-more l a (digits (k - 1) (n / 10)) (digit (n % 10)) b))
+
+-- ---- a sample below 0
+minus-one : (k : ℕ) → negsuc 0 -ℤ pos k ≡ negsuc k
+minus-one zero = refl
+minus-one (suc k) = ap (λ (n : ℕ). negsuc (suc n)) (zero-add k)
+
+below : (n : ℕ) → 32768 ≤ n → n < 65536 → toZ w16 (65535 - n) ≡ pos (65535 - n)
+below n l h = toZ-pos w16 {n = 65535 - n} (omega arith)
+
+pub below-fits : (n : ℕ) → 32768 ≤ n → n < 65536 → SFits w16 (negsuc 0 -ℤ toZ w16 (65535 - n))
+below-fits n l h = rw (below n l h, minus-one (65535 - n)) (record { sfits = omega arith })
+
+pub below-is : (n : ℕ) → 32768 ≤ n → n < 65536 → toZ w16 (ofZ w16 (negsuc 0 -ℤ toZ w16 (65535 - n))) ≡ i16Of n
+unfolding i16Of
+below-is n l h = toZ-ofZ (below-fits n l h) ∙ ap (λ (z : ℤ). negsuc 0 -ℤ z) (below n l h) ∙ minus-one (65535 - n) ∙ sym (ap (λ (b : Bool). cond b (pos n) (negsuc (65535 - n))) (le-ltb n 32768 l))

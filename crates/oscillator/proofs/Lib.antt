@@ -1,0 +1,6 @@
+-- What the proofs of this crate share.
+pub mod Readings
+pub mod NearSine
+pub mod SineTop
+pub mod Bench
+pub mod Runs
