@@ -6,7 +6,7 @@ use take::Answer;
 
 const RATE: u32 = 48000;
 
-const FRAMES: usize = 8;
+const FRAMES: usize = 6;
 
 // Whether two runs of words are the same.
 fn same(a: &[u32], b: &[u32]) -> bool {
@@ -86,8 +86,8 @@ fn compare(
     aux: &[u32],
     kept: &[u32],
 ) {
-    let mut fresh_out = [0x12345678; 96];
-    let mut fresh_aux = [0x7fc00001; 96];
+    let mut fresh_out = [0x12345678; 72];
+    let mut fresh_aux = [0x7fc00001; 72];
     let mut fresh_kept = [0xffffffff; 156];
     let _answer = take::render(
         instrument,
@@ -324,8 +324,8 @@ fn list(instrument: u32, bank: &[i16], map: &[u8]) {
         0x3f800000,
         0u32,
     ];
-    let mut out = [0xdeadbeef; 96];
-    let mut aux = [0x7f800001; 96];
+    let mut out = [0xdeadbeef; 72];
+    let mut aux = [0x7f800001; 72];
     let mut kept = [0x80000000; 156];
     show(take::render(
         instrument,

@@ -1,18 +1,18 @@
--- `retakes::fill_bank` meets its contract.
+-- `fill_map` ends and stays within the map: its number stays below 2^31, and the map's length stays.
 use Prim.Native.Nat.{_-_, _≤_, _<_}
 use mathlib.Core.Path.{_≡_}
 use lib.ListN.{length}
 use borrow.Author.Needs.{needs}
-use Rattle.retakes.proofs.fill_bank.Statement.{statement}
-use Rattle.retakes.proofs.fill_bank.Tie as tie
+use Rattle.edited_takes.proofs.fill_map.Statement.{statement}
+use Rattle.edited_takes.proofs.fill_map.Tie as tie
 
 abbrev Inv-loop : tie.InvT-loop
-Inv-loop bank₀ x₀ i₀ bank x i =
-    (i ≤ length bank₀) × ((x < 2147483648) × (length bank ≡ length bank₀))
+Inv-loop map₀ x₀ i₀ map x i =
+    (i ≤ length map₀) × ((x < 2147483648) × (length map ≡ length map₀))
 
 abbrev μ-loop : tie.MeasureT-loop
-μ-loop bank₀ x₀ i₀ bank x i =
-    length bank₀ - i
+μ-loop map₀ x₀ i₀ map x i =
+    length map₀ - i
 
 loop-holds : tie.Need-loop-holds Inv-loop μ-loop
 loop-holds c = search needs
@@ -20,14 +20,11 @@ loop-holds c = search needs
 following-requires : tie.Need-following-requires Inv-loop μ-loop
 following-requires c κs = search needs
 
-sample-requires : tie.Need-sample-requires Inv-loop μ-loop
-sample-requires c κs = search needs
+cast-map : tie.Need-cast-map Inv-loop μ-loop
+cast-map c = search needs
 
-mul-t4 : tie.Need-mul-t4 Inv-loop μ-loop
-mul-t4 c = search needs
-
-slice-set-from-bank : tie.Need-slice-set-from-bank Inv-loop μ-loop
-slice-set-from-bank c = search needs
+slice-write-map : tie.Need-slice-write-map Inv-loop μ-loop
+slice-write-map c = search needs
 
 add-i : tie.Need-add-i Inv-loop μ-loop
 add-i c = search needs
@@ -44,17 +41,16 @@ same-length c = search needs
 returns : tie.Need-returns Inv-loop μ-loop
 returns c = search needs
 
-pub fill-bank-spec : {M : Type 1} → statement M
-fill-bank-spec =
+pub fill-map-spec : {M : Type 1} → statement M
+fill-map-spec =
     tie.close
     (tie.spec
     Inv-loop
     μ-loop
     loop-holds
     following-requires
-    sample-requires
-    mul-t4
-    slice-set-from-bank
+    cast-map
+    slice-write-map
     add-i
     loop-less
     loop-again

@@ -1,10 +1,10 @@
--- `retakes::turns` meets its contract.
+-- `turns` ends and reads within its list, six words for each edit; the lent words keep their lengths.
 use Prim.Native.Nat.{_-_, _≤_, _/_}
 use mathlib.Core.Path.{_≡_}
 use lib.ListN.{length}
 use borrow.Author.Needs.{needs}
-use Rattle.retakes.proofs.turns.Statement.{statement}
-use Rattle.retakes.proofs.turns.Tie as tie
+use Rattle.edited_takes.proofs.turns.Statement.{statement}
+use Rattle.edited_takes.proofs.turns.Tie as tie
 
 abbrev Inv-loop : tie.InvT-loop
 Inv-loop instrument bank map edits rows₀ out₀ aux₀ kept₀ n i₀ rows out aux kept i =

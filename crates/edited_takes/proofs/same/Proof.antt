@@ -1,9 +1,9 @@
--- `retakes::same` meets its contract.
+-- `same` ends and reads within both runs, which are of one length.
 use Prim.Native.Nat.{_-_, _≤_}
 use lib.ListN.{length}
 use borrow.Author.Needs.{needs}
-use Rattle.retakes.proofs.same.Statement.{statement}
-use Rattle.retakes.proofs.same.Tie as tie
+use Rattle.edited_takes.proofs.same.Statement.{statement}
+use Rattle.edited_takes.proofs.same.Tie as tie
 
 abbrev Inv-loop : tie.InvT-loop
 Inv-loop a b i₀ i =
