@@ -10,11 +10,7 @@ use lib.Dec.{leb, eqb}
 use lib.ListN.{length, getD, take, drop, length-drop}
 use lib.Seq.{drop-cons, take-add, drop-drop}
 use Rattle.score.specs.Text.{between, isDigit, digitOf, eachDigit, wordDigits, isWord, followedBy, wordOf}
-
--- both halves of a conjunction
-pub both : (a b : Bool) → a && b ≡ true → (a ≡ true) × (b ≡ true)
-both true b e = (refl, e)
-both false b e = absurd (false≢true e)
+use Rattle.score.proofs.Cases.{both, and-true}
 
 -- ---- a digit
 inside : (low high b : ℕ) → between low high b ≡ true → (low ≤ b) × (b ≤ high)
@@ -61,10 +57,6 @@ followed : (number : ℕ) (a b : List ℕ) → followedBy number (a ++ b) ≡ fo
 unfolding followedBy
 followed number [] b = refl
 followed number (x ∷ a) b = followed _ a b
-
-pub and-true : (b : Bool) → b && true ≡ b
-and-true true = refl
-and-true false = refl
 
 module _ (text : List ℕ) (at : ℕ) where
   pub word-by-digits : at + wordDigits ≤ length text

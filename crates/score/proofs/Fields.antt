@@ -12,10 +12,9 @@ use lib.ListN.{length, getD, take, drop, take-append-drop, length-drop}
 use lib.Seq.{drop-cons, take-take, getD-take, length-take-le, drop-drop}
 use Rattle.score.specs.Text.{lf, space, onFirst, split, Line, ended, unended, contents, lined, linesOf, firstOf, restOf, fieldsOf, isDigit, eachDigit, wordDigits, isWord, eachWord, holdsWords}
 use Rattle.score.specs.Inner.{startsWord}
-use Rattle.score.proofs.Order.{le-or-lt}
+use Rattle.score.proofs.Cases.{le-or-lt, both, and-true, and-false}
 use Rattle.score.proofs.Split.{reach, first-piece, reach-fits, reach-at}
 use Rattle.score.proofs.FirstLine.{lined-cut, first-line, open-line}
-use Rattle.score.proofs.Digits.{both, and-true}
 
 -- ---- bytes in front of a text that are no LF: they stand in front of its first line
 abbrev onLine : List ℕ → Line → Line
@@ -161,10 +160,6 @@ module _ (text : List ℕ) (e : startsWord lf text ≡ true) where
 starts-with : (follows : ℕ) (text : List ℕ) → wordDigits < length text → isWord (take wordDigits text) ≡ true → getD text wordDigits 0 ≡ follows → startsWord follows text ≡ true
 unfolding startsWord
 starts-with follows text h w b = rw (lt-ltb wordDigits (length text) h, w, eq-eqb (getD text wordDigits 0) follows b)
-
-and-false : (b : Bool) → b && false ≡ false
-and-false true = refl
-and-false false = refl
 
 module _ (text : List ℕ) (no-space : startsWord space text ≡ false) (no-lf : startsWord lf text ≡ false) where
   module _ (end : ℕ) (e : end ≡ reach lf text) (h : end < length text) (k : ℕ) (r : k ≡ reach space (take end text)) (w : isWord (take k (take end text)) ≡ true) where

@@ -1,4 +1,5 @@
 -- What the proofs of this crate share.
+pub mod Cases
 pub mod Order
 pub mod Within
 pub mod Split

@@ -1,11 +1,11 @@
 -- Floats from +0 up stand in the order of their words: both go by the exponent's field first and then by the digits below it.
 use mathlib.Core.Path.{_≡_, refl, sym, ap, _∙_, subst}
-use mathlib.Core.Logic.{_⊎_, inl, inr, ⊎-elim}
+use mathlib.Core.Logic.{⊎-elim}
 use mathlib.Core.Bool.{Bool, true, false, _&&_, _||_, cond, true≢false, false≢true}
 use Prim.Native.Nat.{ℕ, zero, suc, _+_, _*_, _/_, _%_, _^_, _≤_, _<_}
 use native.Mathlib.Nat.{eq-or-lt-of-le, mul-lt-mul-of-pos-right, mul-le-mul-left, mul-le-mul-right, le-of-mul-le-mul-right, pow-suc, mod-eq-of-lt, lt-irrefl, lt-of-lt-of-le, le-trans, le-of-eq, le-of-lt, zero-mul, mul-pos}
 use native.Mathlib.Omega.{arith}
-use borrow.Author.Tests.{le-leb, lt-leb, leb-true, leb-false, ne-eqb, eq-eqb, lt-ltb, le-ltb}
+use borrow.Author.Tests.{le-leb, lt-leb, ne-eqb, eq-eqb, lt-ltb, le-ltb}
 use lib.IntN.{pos}
 use lib.Dec.{leb, ltb, eqb}
 use lib.Pow.{pow-pos, pow-mono}
@@ -13,13 +13,7 @@ use lib.Ieee.{Float, nan, inf, fin, binary32, up, down, le, lt, eq, ofBits, ofFi
 use lib.Ieee.Exact.{HasValue, odd-sign}
 use lib.Ieee.Fits.{down-pos}
 use lib.Ieee.Order.{transfer}
-
-pub le-or-lt : (a b : ℕ) → (a ≤ b) ⊎ (b < a)
-le-or-lt a b = go (leb a b) refl
-  where
-    go : (t : Bool) → leb a b ≡ t → (a ≤ b) ⊎ (b < a)
-    go true e = inl (leb-true a b e)
-    go false e = inr (leb-false a b e)
+use Rattle.score.proofs.Cases.{le-or-lt}
 
 -- two tests are the same where each way of the one is that way of the other
 same-leb : (a b c d : ℕ) → (a ≤ b → c ≤ d) → (b < a → d < c) → leb a b ≡ leb c d

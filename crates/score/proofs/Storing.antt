@@ -15,7 +15,7 @@ use Rattle.score.specs.Numbers.{success, refused}
 use Rattle.score.specs.Text.{Line, linesOf, restOf, holdsWords, rowOf, rowsOf}
 use Rattle.score.specs.Reading.{lineNumber, testLines}
 use Rattle.score.specs.Inner.{lineAt}
-use Rattle.score.proofs.Order.{le-or-lt}
+use Rattle.score.proofs.Cases.{le-or-lt}
 use Rattle.score.proofs.FirstLine.{some-line}
 use Rattle.score.proofs.Fields.{fieldBytes}
 use Rattle.score.proofs.Rows.{value, first-tested, none-left, next-line, line-fits, line-passes}
