@@ -15,7 +15,7 @@ use lib.Ieee.Exact.{HasValue, round-exact}
 use Rattle.words.specs.Binary32.{_⊖_, _⊗_, decimal, ofCount}
 use Rattle.words.specs.Parts.{partOf, wholePart, wholeI32Float}
 use Rattle.words.proofs.Values.{mul-at, fraction-at, not-below-at}
-use Rattle.words.proofs.WholeWords.{whole-at, signed-at}
+use Rattle.words.proofs.WholeParts.{whole-at, signed-at}
 use Rattle.utils.specs.Utils.{clampOf}
 
 -- r / 2 ^ s with fewer than 25 digits, i places up: exact

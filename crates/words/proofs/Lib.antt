@@ -2,9 +2,10 @@
 pub mod Floats
 pub mod Words
 pub mod WholeParts
-pub mod WholeWords
 pub mod Rounding
 pub mod Signs
 pub mod Parts
 pub mod Values
+pub mod ByRounding
+pub mod HeldWhole
 pub mod Bench

@@ -1,17 +1,16 @@
 -- A signed number by its sign, and a float with the other sign.
 use mathlib.Core.Path.{_≡_, refl, sym, ap, _∙_, subst}
 use mathlib.Core.Bool.{Bool, true, false, cond, true≢false}
-use Prim.Native.Nat.{ℕ, zero, suc, _+_, _*_, _^_, _≤_, _<_}
+use Prim.Native.Nat.{ℕ, zero, suc, _+_, _*_, _^_}
 use native.Mathlib.Omega.{arith}
 use borrow.Author.Tests.{ltb-true}
-use lib.Dec.{T, ltb, lt→ltb, le→leb}
-use lib.IntN.{ℤ, pos, negsuc, negℤ, _-ℤ_, +ℤ-idl}
+use lib.Dec.{ltb}
+use lib.IntN.{ℤ, pos, negsuc, _-ℤ_, +ℤ-idl}
 use lib.Signed.{ltZ}
 use mir.Syntax.{w32, w64}
 use mir.Val.{SFits, toZ, ofZ}
 use mir.Facts.{toZ-ofZ, sfits-widen}
-use lib.Ieee.{Float, Format, binary32, low, emax, prec, odd, units, round, neg, ofInt, inFloat}
-use Rattle.words.proofs.WholeParts.{neg-mag}
+use lib.Ieee.{Float, Format, binary32, low, emax, prec, odd, units, round, neg, ofInt}
 
 -- ---- the sign of an i32
 pub below-zero : (n : ℤ) → ltZ n (pos 0) ≡ true → (k : ℕ) × (n ≡ negsuc k)
@@ -62,14 +61,3 @@ round-neg f a c = units-neg f _ _
 pub ofInt-neg : (k : ℕ) → ofInt binary32 (negsuc k) ≡ neg (ofInt binary32 (pos (suc k)))
 unfolding ofInt
 ofInt-neg k = round-neg binary32 (suc k) 1
-
--- ---- a number with a sign put on
-pub signed-fits : (b : Bool) (n : ℕ) → n < 2147483648 → SFits w32 (cond b (negℤ (pos n)) (pos n))
-signed-fits true n h = neg-mag n h
-signed-fits false n h = record { sfits = h }
-
-pub signed-in-float : (b : Bool) (n : ℕ) → n ≤ 16777216 → T (inFloat binary32 (cond b (negℤ (pos n)) (pos n)))
-unfolding inFloat
-signed-in-float true zero h = tt
-signed-in-float true (suc n) h = lt→ltb n 16777216 h
-signed-in-float false n h = le→leb n 16777216 h

@@ -1,8 +1,8 @@
--- The whole part of a float by tests of the float: below -1, from 2 ^ 64 on, and as an i32 from the unsigned one.
+-- The whole part of a float by its value, and by tests of the float: below -1, from 2 ^ 64 on, and as an i32 from the unsigned one.
 use mathlib.Core.Path.{_≡_, refl, sym, ap, _∙_}
-use mathlib.Core.Bool.{Bool, true, false, true≢false, false≢true}
-use Prim.Native.Nat.{ℕ, zero, suc, _+_, _*_, _/_, _≤_, _<_, min}
-use native.Mathlib.Nat.{le-div-iff-mul-le, min-eq-right, min-eq-left, zero-min, zero-div}
+use mathlib.Core.Bool.{Bool, true, false, cond, true≢false, false≢true}
+use Prim.Native.Nat.{ℕ, zero, suc, _+_, _*_, _/_, _≤_, _<_, _-_, _^_, min}
+use native.Mathlib.Nat.{le-div-iff-mul-le, div-lt-iff-lt-mul, min-le-left, le-trans, min-eq-right, min-eq-left, zero-min, zero-div}
 use native.Mathlib.Omega.{arith}
 use borrow.Author.Tests.{ltb-true, ltb-false, lt-ltb, leb-true, leb-false}
 use lib.IntN.{ℤ, pos, negℤ, _-ℤ_, +ℤ-idl}
@@ -10,11 +10,30 @@ use lib.Dec.{ltb, leb, lit≤, lit<}
 use mir.Val.{SFits, toZ, ofZ}
 use mir.Facts.{toZ-pos, toZ-ofZ}
 use mir.Syntax.{w32}
-use lib.Ieee.{Float, nan, inf, fin, up, down, lt, neg, toUnsigned, toSigned}
+use lib.Ieee.{Float, nan, inf, fin, up, down, lt, neg, binary32, ofBits, toUnsigned, toSigned}
 use lib.Ieee.Fits.{down-pos}
+use lib.Ieee.Nearest.{div-same}
+use lib.Ieee.Exact.{HasValue}
 
 absurd-tf : {A : Type 0} → true ≡ false → A
 absurd-tf e = absurd (true≢false e)
+
+-- of a float that is a / c in size
+pub whole-at : (w : ℕ) (x : Float) (a c : ℕ) → 0 < c → HasValue x false a c → toUnsigned w x ≡ min (a / c) (2 ^ w - 1)
+unfolding toUnsigned
+whole-at w nan a c p v = absurd v
+whole-at w (inf t) a c p v = absurd v
+whole-at w (fin t m e) a c p v =
+    ap (λ (b : Bool). cond b 0 (min (m * up e / down e) (2 ^ w - 1))) (v .0)
+    ∙ ap (λ (n : ℕ). min n (2 ^ w - 1)) (div-same (m * up e) (down e) a c (down-pos e) p (v .1))
+
+pub signed-at : (h : ℕ) (x : Float) (a c : ℕ) → 0 < c → HasValue x false a c → toSigned h x ≡ pos (min (a / c) (2 ^ h - 1))
+unfolding toSigned
+signed-at h nan a c p v = absurd v
+signed-at h (inf t) a c p v = absurd v
+signed-at h (fin t m e) a c p v =
+    ap (λ (b : Bool). cond b (negℤ (pos (min (m * up e / down e) (2 ^ h)))) (pos (min (m * up e / down e) (2 ^ h - 1)))) (v .0)
+    ∙ ap (λ (n : ℕ). pos (min n (2 ^ h - 1))) (div-same (m * up e) (down e) a c (down-pos e) p (v .1))
 
 -- a test that 0 is below something fails, and the something is not 0
 not-zero : {A : Type 0} (n : ℕ) → 0 < n → ltb 0 n ≡ false → A
@@ -82,3 +101,31 @@ taken-off n h =
     let t : toZ w32 n ≡ pos n = toZ-pos w32 h in
     let e : pos 0 -ℤ toZ w32 n ≡ negℤ (pos n) = ap (λ (z : ℤ). pos 0 -ℤ z) t ∙ +ℤ-idl (negℤ (pos n)) in
     ap (λ (z : ℤ). toZ w32 (ofZ w32 z)) e ∙ toZ-ofZ (neg-mag n h)
+
+-- ---- below 2 ^ 23
+pub whole-below : (x : Float) → lt x (fin false 1 (pos 23)) ≡ true → toUnsigned 64 x ≤ 8388607
+unfolding lt toUnsigned
+whole-below nan h = absurd (false≢true h)
+whole-below (inf true) h = lit≤ tt
+whole-below (inf false) h = absurd (false≢true h)
+whole-below (fin true m e) h = lit≤ tt
+whole-below (fin false m e) h =
+    let l : m * up e / down e < 8388608 = div-lt-iff-lt-mul (down-pos e) .1 (omega (arith, ltb-true (m * up e * 1) (1 * 8388608 * down e) h)) in
+    le-trans (min-le-left (m * up e / down e) 18446744073709551615) (omega arith)
+
+-- ---- as an i32, of a float below 2 ^ 23 in size
+pub signed-small : (x : Float) (n : ℕ) → n ≡ min (toUnsigned 64 (cond (lt x (ofBits binary32 0)) (neg x) x)) 8388607 → lt (cond (lt x (ofBits binary32 0)) (neg x) x) (fin false 1 (pos 23)) ≡ true
+    → cond (lt x (ofBits binary32 0)) (negℤ (pos n)) (pos n) ≡ toSigned 31 x
+unfolding ofBits
+signed-small x n = go (lt x (fin false 0 (pos 0))) refl
+  where
+    go : (b : Bool) → lt x (fin false 0 (pos 0)) ≡ b → n ≡ min (toUnsigned 64 (cond b (neg x) x)) 8388607 → lt (cond b (neg x) x) (fin false 1 (pos 23)) ≡ true
+        → cond b (negℤ (pos n)) (pos n) ≡ toSigned 31 x
+    go true h e l =
+        let m : toUnsigned 64 (neg x) ≤ 8388607 = whole-below (neg x) l in
+        let k : min (toUnsigned 64 (neg x)) 2147483648 ≡ n = min-eq-left (omega arith) ∙ sym (e ∙ min-eq-left m) in
+        sym (signed-down x h ∙ ap (λ (y : ℕ). negℤ (pos y)) k)
+    go false h e l =
+        let m : toUnsigned 64 x ≤ 8388607 = whole-below x l in
+        let k : min (toUnsigned 64 x) 2147483647 ≡ n = min-eq-left (omega arith) ∙ sym (e ∙ min-eq-left m) in
+        sym (signed-up x h ∙ ap pos k)

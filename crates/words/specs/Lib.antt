@@ -1,3 +1,3 @@
 pub mod Binary32
 pub mod Parts
-pub mod Scale
+pub mod Inner

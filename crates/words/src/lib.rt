@@ -1,13 +1,12 @@
 // Words and floats: a float's word, a word's float, whole parts, and whole numbers as floats.
 ghost use mathlib.Core.Path.{_≡_};
-ghost use Prim.Native.Nat.{compare, min, _*_, _/_, _≤_, _<_};
-ghost use mathlib.Core.Bool.{cond};
-ghost use lib.Dec.{ltb};
-ghost use lib.IntN.{pos, negℤ};
-ghost use lib.Ieee.{binary32, toBits, ofBits, toUnsigned, toSigned, ofInt, nearest, neg, lt};
-ghost use Rattle.words.specs.Binary32.{ofCount};
+ghost use Prim.Native.Nat.{compare, min, _+_, _*_, _/_, _≤_, _<_};
+ghost use mathlib.Core.Bool.{cond, false};
+ghost use lib.IntN.{pos};
+ghost use lib.Ieee.{binary32, toBits, ofBits, toUnsigned, toSigned, ofInt, nearest, neg, lt, fin};
+ghost use Rattle.words.specs.Binary32.{_⊖_, ofCount};
 ghost use Rattle.words.specs.Parts.{wholeFloat, wholeI32Float, partOf};
-ghost use Rattle.words.specs.Scale.{Scaled};
+ghost use Rattle.words.specs.Inner.{Scaled, Small};
 
 // The word of a float. Any NaN gives 7fc00000.
 pub fn to_word(x: f32) -> u32
@@ -120,41 +119,33 @@ pub fn float_of_i32(n: i32) -> f32
     }
 }
 
-// A word with the whole part of x: its own where x is above a half, else that of a half.
-fn up_word(x: f32) -> u32
-    ensures { λ r. ⌜ (toUnsigned 64 (ofBits binary32 r) ≡ toUnsigned 64 x) × (r ≤ 2139095040) ⌝ }
+// x between 0 and `top`, which `t` is as a float: a float with the whole part of x held there.
+fn held_between(x: f32, top: usize, t: f32) -> f32
+    requires { ⌜ (top ≤ 8388607) × (t ≡ ofCount top) ⌝ }
+    ensures { λ r. ⌜ toUnsigned 64 r ≡ min (toUnsigned 64 x) top ⌝ }
+    ensures { λ r. ⌜ Small r ⌝ }
 {
-    if x > 0.5 { f32::to_bits(x) } else { 0x3f000000 }
-}
-
-// A word from 0.5 to below 2 to the power 23, with the whole part of b held there.
-fn held_word(b: u32) -> u32
-    requires { ⌜ b ≤ 2139095040 ⌝ }
-    ensures { λ r. ⌜ toUnsigned 64 (ofBits binary32 r) ≡ min (toUnsigned 64 (ofBits binary32 b)) 8388607 ⌝ }
-    ensures { λ r. ⌜ (1056964608 ≤ r) × (r < 1258291200) ⌝ }
-{
-    if b > 0x4affffff {
-        0x4affffff
-    } else if b < 0x3f000000 {
-        0x3f000000
+    if x > 0.0 {
+        if x < t { x } else { t }
     } else {
-        b
+        0.0
     }
 }
 
-// The whole part of such a word: its significand, shifted by what its exponent lacks.
-fn word_whole(b: u32) -> u32
-    requires { ⌜ (1056964608 ≤ b) × (b < 1258291200) ⌝ }
-    ensures { λ r. ⌜ r ≡ toUnsigned 64 (ofBits binary32 b) ⌝ }
+// 1 where r is above y, else 0.
+fn one_above(r: f32, y: f32) -> f32
+    ensures { λ d. ⌜ d ≡ cond (lt y r) (fin false 1 (pos 0)) (fin false 0 (pos 0)) ⌝ }
 {
-    (8388608 + b % 8388608) >> (150 - b / 8388608)
+    if r > y { 1.0 } else { 0.0 }
 }
 
-// The whole part of a float, held at 2 to the power 23 less 1: no branch on the float.
-fn small_whole(x: f32) -> u32
-    ensures { λ r. ⌜ r ≡ min (toUnsigned 64 x) 8388607 ⌝ }
+// The whole part of a small float, as a float: 2 to the power 23 on top leaves no digit for a fraction.
+fn lower(y: f32) -> f32
+    requires { ⌜ Small y ⌝ }
+    ensures { λ r. ⌜ r ≡ wholeFloat y ⌝ }
 {
-    word_whole(held_word(up_word(x)))
+    let r = (y + 8388608.0) - 8388608.0;
+    r - one_above(r, y)
 }
 
 // The whole part of a float, as a float.
@@ -162,7 +153,7 @@ pub fn whole_float(x: f32) -> f32
     ensures { λ r. ⌜ r ≡ wholeFloat x ⌝ }
 {
     if x < 8388608.0 {
-        small_whole(x) as f32
+        lower(held_between(x, 8388607, 8388607.0))
     } else {
         float_of_u64(whole(x))
     }
@@ -175,12 +166,11 @@ fn magnitude(x: f32) -> f32
     if x < 0.0 { -x } else { x }
 }
 
-// n with the sign of x.
-fn signed(x: f32, n: u32) -> i32
-    requires { ⌜ n ≤ 8388607 ⌝ }
-    ensures { λ r. ⌜ r ≡ cond (lt x (ofBits binary32 0)) (negℤ (pos n)) (pos n) ⌝ }
+// A whole number n, as a float, with the sign of x. A zero is +0.
+fn signed(x: f32, n: f32) -> f32
+    ensures { λ r. ⌜ r ≡ cond (lt x (ofBits binary32 0)) (ofBits binary32 0 ⊖ n) n ⌝ }
 {
-    if x < 0.0 { 0 - (n as i32) } else { n as i32 }
+    if x < 0.0 { 0.0 - n } else { n }
 }
 
 // The whole part of a float as an i32, as a float.
@@ -189,7 +179,7 @@ pub fn whole_i32_float(x: f32) -> f32
 {
     let m = magnitude(x);
     if m < 8388608.0 {
-        signed(x, small_whole(m)) as f32
+        signed(x, whole_float(m))
     } else {
         float_of_i32(whole_i32(x))
     }
@@ -202,33 +192,51 @@ pub struct Part {
     pub held: bool,
 }
 
-// A number that tells the whole part of x from no other up to `top`, and lies above `top` where it does.
-fn reach(x: f32, top: usize) -> usize
-    ensures { λ r. ⌜ (min r top ≡ min (toUnsigned 64 x) top) × (ltb top r ≡ ltb top (toUnsigned 64 x)) ⌝ }
+// A position whose whole part is held at a `top` below 2 to the power 23, which `t` is as a float, and `above` the number after it.
+fn near_part(x: f32, top: usize, t: f32, above: f32) -> Part
+    requires { ⌜ (top < 8388607) × ((t ≡ ofCount top) × (above ≡ ofCount (top + 1))) ⌝ }
+    ensures { λ r. ⌜ r ≡ partOf top x ⌝ }
 {
-    if top < 8388607 {
-        small_whole(x) as usize
-    } else {
-        whole(x) as usize
+    let n = lower(held_between(x, top, t));
+    Part {
+        whole: (n as u32) as usize,
+        fraction: x - n,
+        held: x >= above,
     }
 }
 
-// The smaller of two numbers.
-fn least(a: usize, b: usize) -> usize
-    ensures { λ r. ⌜ r ≡ min a b ⌝ }
+// The same for any `top`.
+fn far_part(x: f32, top: usize) -> Part
+    ensures { λ r. ⌜ r ≡ partOf top x ⌝ }
 {
-    if a < b { a } else { b }
+    let n = whole(x) as usize;
+    if n > top {
+        Part {
+            whole: top,
+            fraction: x - float_of_u64(top as u64),
+            held: true,
+        }
+    } else {
+        Part {
+            whole: n,
+            fraction: x - float_of_u64(n as u64),
+            held: false,
+        }
+    }
 }
 
 // A position whose whole part is held at `top`.
 pub fn held_part(x: f32, top: usize) -> Part
     ensures { λ r. ⌜ r ≡ partOf top x ⌝ }
 {
-    let n = reach(x, top);
-    let whole = least(n, top);
-    Part {
-        whole,
-        fraction: x - float_of_u64(whole as u64),
-        held: n > top,
+    if top < 8388607 {
+        near_part(
+            x,
+            top,
+            float_of_u64(top as u64),
+            float_of_u64((top + 1) as u64),
+        )
+    } else {
+        far_part(x, top)
     }
 }

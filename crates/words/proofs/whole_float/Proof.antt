@@ -1,21 +1,20 @@
 -- `words::whole_float` meets its contract.
-use mathlib.Core.Path.{sym, ap, _∙_, subst}
-use Prim.Native.Nat.{ℕ, _≤_}
-use native.Mathlib.Nat.{min-eq-left, min-le-right, le-trans}
+use mathlib.Core.Path.{refl, ap, _∙_}
+use native.Mathlib.Nat.{min-eq-left}
 use lib.Dec.{lit≤}
-use lib.Ieee.{ofBits}
+use lib.Ieee.{ofBits, ofInt}
 use borrow.Author.Needs.{needs}
 use Rattle.words.specs.Binary32.{ofCount}
-use Rattle.words.proofs.Rounding.{in-float}
-use Rattle.words.proofs.WholeWords.{whole-below}
+use Rattle.words.proofs.WholeParts.{whole-below}
 use Rattle.words.proofs.whole_float.Statement.{statement}
 use Rattle.words.proofs.whole_float.Tie as tie
 
-small-whole-requires : tie.Need-small-whole-requires
-small-whole-requires c κs = search needs
+held-between-requires : tie.Need-held-between-requires
+unfolding ofBits ofInt
+held-between-requires c κs = (lit≤ tt, refl)
 
-int-to-float-result : tie.Need-int-to-float-result
-int-to-float-result c = in-float _ (subst (λ (n : ℕ). n ≤ 16777216) (sym (c .before .small-whole .ensures)) (le-trans (min-le-right _ 8388607) (lit≤ tt)))
+lower-requires : tie.Need-lower-requires
+lower-requires c κs = search needs
 
 whole-requires : tie.Need-whole-requires
 whole-requires c κs = search needs
@@ -25,7 +24,7 @@ float-of-u64-requires c κs = search needs
 
 returns : tie.Need-returns
 unfolding ofBits
-returns c = ap ofCount (c .before .small-whole .ensures ∙ min-eq-left (whole-below _ (c .before .before .if1 .taken)))
+returns c = c .lower .ensures ∙ ap ofCount (c .before .held-between .ensures .0 ∙ min-eq-left (whole-below _ (c .before .before .if1 .taken)))
 
 returns-2 : tie.Need-returns-2
 returns-2 c = c .float-of-u64 .ensures ∙ ap ofCount (c .before .whole .ensures)
@@ -34,8 +33,8 @@ pub whole-float-spec : {M : Type 1} → statement M
 whole-float-spec =
     tie.close
     (tie.spec
-    small-whole-requires
-    int-to-float-result
+    held-between-requires
+    lower-requires
     whole-requires
     float-of-u64-requires
     returns
