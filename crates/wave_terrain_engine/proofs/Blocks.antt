@@ -19,19 +19,8 @@ use Rattle.oscillator.specs.Path.{pathRun, pathRun2, pathAfter}
 use Rattle.oscillator.specs.Sine.{sineOf}
 use Rattle.oscillator.specs.declared.sine_oscillator.FastSineOscillator.{FastSineOscillator}
 use Rattle.wave_terrain_engine.specs.declared.WaveTerrainEngine.{WaveTerrainEngine}
-use Rattle.wave_terrain_engine.specs.Block.{Frame, layerTop, interpolatorsNext, frameNext, layerOf, between, outOf, phaseOf, heightAt, zAt, frameOut, frameAux, frameHeld, framesOut, framesAux, framesHeld, scale, radiusOf, interpolatorsOf, terrainBlock, Renders}
-use Rattle.wave_terrain_engine.specs.Stages.{
-  stageX,
-  stageLayer,
-  stageFraction,
-  stageHeight,
-  stageZ,
-  stageOut,
-  stagePhase,
-  stageAux,
-  FramesDone,
-}
-use Rattle.wave_terrain_engine.specs.Heights.{terrainOf}
+use Rattle.wave_terrain_engine.specs.Block.{Frame, layerTop, interpolatorsNext, frameNext, layerOf, heightAt, zAt, frameOut, frameAux, frameHeld, scale, radiusOf, interpolatorsOf, terrainBlock, Renders}
+use Rattle.wave_terrain_engine.specs.Stages.{stageX, stageLayer, stageFraction, stageHeight, stageZ, stageOut, stagePhase, stageAux, FramesDone}
 use Rattle.wave_terrain_engine.specs.declared.frames.Interpolators.{Interpolators}
 use Rattle.wave_terrain_engine.specs.declared.terrain.Reading.{Reading}
 use Rattle.wave_terrain_engine.proofs.Counts.{count-pairs}
@@ -143,13 +132,3 @@ module _ (sine high low : List Float) (bank : List ℤ) (map : List ℕ) (n : �
         held-is = done .held-is ∙ rw (r1-is, r2-is, start-is, radius-is, half-is, f0-is);
         held-most = done .held-most;
       }
-
--- ---- a block has a word for each frame
-module _ (sine high low : List Float) (bank : List ℤ) (map : List ℕ) (n : ℕ) (p : EngineParameters) (s : WaveTerrainEngine) where
-  pub out-length : length (terrainBlock sine high low bank map n p s .out) ≡ n
-  unfolding terrainBlock
-  out-length = each-length frameNext _ n _
-
-  pub aux-length : length (terrainBlock sine high low bank map n p s .aux) ≡ n
-  unfolding terrainBlock
-  aux-length = each-length frameNext _ n _

@@ -1,6 +1,6 @@
 -- A place is at most its edge, and it is the same for whole parts that are cut off above every edge: then both sums are past the edge, or they are one.
 use mathlib.Core.Path.{_≡_, refl, sym, ap, _∙_, subst}
-use mathlib.Core.Logic.{_⊎_, inl, inr, ⊎-elim}
+use mathlib.Core.Logic.{_⊎_, inl, inr}
 use mathlib.Core.Bool.{Bool, true, false, cond}
 use Prim.Native.Nat.{ℕ, _+_, _*_, _≤_, _<_, min}
 use native.Mathlib.Nat.{min-le-right, min-eq-left, min-eq-right}
@@ -12,16 +12,7 @@ use Rattle.words.specs.Binary32.{_⊖_, _⊗_, decimal, ofCount}
 use Rattle.words.specs.Parts.{wholePart, wholeFloat, partOf}
 use Rattle.words.specs.declared.Part.{Part}
 use Rattle.wave_terrain_engine.specs.Block.{scale}
-use Rattle.wave_terrain_engine.specs.Heights.{
-  heldPlace,
-  terrainSize,
-  mapEdge,
-  mapPlace,
-  tableSizeFull,
-  numWaves,
-  bankEdge,
-  bankPlace,
-}
+use Rattle.wave_terrain_engine.specs.Heights.{heldPlace, terrainSize, mapEdge, mapPlace, tableSizeFull, numWaves, bankEdge, bankPlace}
 use Rattle.wave_terrain_engine.specs.Stages.{reach}
 use Rattle.wave_terrain_engine.specs.declared.terrain.Place.{Place}
 

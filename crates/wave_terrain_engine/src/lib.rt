@@ -19,8 +19,8 @@ use oscillator::sine_oscillator::FastSineOscillator;
 use utils::engine::EngineParameters;
 use utils::parameter_interpolator::ParameterInterpolator;
 
-pub mod frames;
-pub mod terrain;
+mod frames;
+mod terrain;
 
 pub struct WaveTerrainEngine {
     pub path: FastSineOscillator,

@@ -1,7 +1,7 @@
 // The terrains: their height at a point.
 // Based on MIT-licensed code (c) 2021 by Emilie Gillet (emilie.o.gillet@gmail.com)
 ghost use mathlib.Core.Path.{_≡_};
-ghost use Prim.Native.Nat.{_+_, _≤_, _<_, min};
+ghost use Prim.Native.Nat.{_+_, _≤_, min};
 ghost use lib.ListN.{length};
 ghost use Rattle.words.specs.Binary32.{_⊖_};
 ghost use Rattle.words.specs.Parts.{wholePart, wholeFloat};

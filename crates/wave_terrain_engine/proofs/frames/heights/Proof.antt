@@ -1,8 +1,8 @@
 -- The loop over the heights of a layer, by the law of lent runs that a loop fills and the law of counts.
 use borrow.Author.Needs.{needs}
 use native.Mathlib.Omega.{arith}
-use Prim.Native.Nat.{ℕ, suc, _-_, _/_, _≤_, zero-le}
-use mathlib.Core.Path.{_≡_, ap, _∙_}
+use Prim.Native.Nat.{suc, _-_, _/_, _≤_, zero-le}
+use mathlib.Core.Path.{_≡_, ap}
 use lib.Ieee.{nan}
 use Rattle.utils.specs.Frames.{sumOf}
 use Rattle.oscillator.proofs.Runs.{Filling, filling-none, filling-more}
