@@ -32,7 +32,7 @@ le-is-leb a b = ⊎-elim up-to (λ h. rw (le-ltb a b (omega arith), ne-eqb a b (
     up-to : a ≤ b → ltb a b || (eqb a b && true) ≡ leb a b
     up-to h = ⊎-elim (λ e. rw (le-ltb a b (omega arith), eq-eqb a b e, le-leb a b h)) (λ l. rw (lt-ltb a b l, le-leb a b h)) (eq-or-lt-of-le h)
 
-pub le-of-values : (x y : Float) (a b c : ℕ) → 0 < c → HasValue x false a c → HasValue y false b c → le x y ≡ leb a b
+le-of-values : (x y : Float) (a b c : ℕ) → 0 < c → HasValue x false a c → HasValue y false b c → le x y ≡ leb a b
 unfolding le lt eq
 le-of-values nan y a b c C p q = absurd p
 le-of-values (inf s) y a b c C p q = absurd p
@@ -55,7 +55,7 @@ abbrev pub size : ℕ → ℕ → ℕ
 size zero t = t * 2 ^ 0
 size (suc x) t = (2 ^ 23 + t) * 2 ^ x
 
-pub has-size : (s : Bool) (x t : ℕ) → x < 255 → HasValue (ofFields binary32 s x t) s (size x t) (2 ^ 149)
+has-size : (s : Bool) (x t : ℕ) → x < 255 → HasValue (ofFields binary32 s x t) s (size x t) (2 ^ 149)
 unfolding ofFields
 has-size s zero t h = odd-sign 24 s t 0 149
 has-size s (suc x) t h = rw (ne-eqb (suc x) 255 (λ e. omega arith)) (odd-sign 24 s (2 ^ 23 + t) x 149)

@@ -6,3 +6,4 @@ pub mod Stored
 pub mod Walking
 pub mod Keys
 pub mod Composed
+pub mod Bench

@@ -22,6 +22,7 @@ use Rattle.wavetable_engine.specs.declared.readings.Places.{Places}
 use Rattle.wavetable_engine.specs.Wavetable.{
   wave,
   waveLength,
+  bankLength,
   foldLevel,
   moved,
   partsOf,
@@ -102,10 +103,10 @@ readLevel bank l p f =
 
 -- A level all of whose waves lie in the bank.
 pub record LevelFits (l : Level) : Type 0 where
-  pub x0y0-fits : l .x0y0 < 25213
-  pub x1y0-fits : l .x1y0 < 25213
-  pub x0y1-fits : l .x0y1 < 25213
-  pub x1y1-fits : l .x1y1 < 25213
+  pub x0y0-fits : l .x0y0 + waveLength ≤ bankLength
+  pub x1y0-fits : l .x1y0 + waveLength ≤ bankLength
+  pub x0y1-fits : l .x0y1 + waveLength ≤ bankLength
+  pub x1y1-fits : l .x1y1 + waveLength ≤ bankLength
 
 -- The corners of a frame by its key.
 abbrev pub cornersOf : List ℤ → ℕ → Float → List (List (List Float))

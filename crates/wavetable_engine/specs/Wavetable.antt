@@ -31,6 +31,13 @@ waves = 192
 abbrev pub waveLength : ℕ
 waveLength = 132
 
+-- TABLE_SIZE: a period of a wave, which has four samples more; and as a float.
+abbrev pub tableSize : ℕ
+tableSize = 128
+
+abbrev pub tableSizeF : Float
+tableSizeF = decimal 128 0
+
 -- "Frames 0 or above 128" are refused.
 abbrev pub maxFrames : ℕ
 maxFrames = 128
@@ -129,7 +136,7 @@ partsOf s =
       x = partOf xTop (s .«x_lp»);
       y = partOf yTop (s .«y_lp»);
       z = partOf zTop (s .«z_lp»);
-      phase = partOf phaseTop (s .phase ⊗ decimal 128 0);
+      phase = partOf phaseTop (s .phase ⊗ tableSizeF);
     }
 
 -- "A frame with any hold adds 1 to `held`."
@@ -171,7 +178,7 @@ unfoldable pub gainOf : Float → Float
 gainOf f0 = (decimal 1 0 ⊘ (f0 ⊗ decimal 131072 0)) ⊗ (decimal 95 2 ⊖ f0)
 
 unfoldable pub cutoffOf : Float → Float
-cutoffOf f0 = minOf (decimal 128 0 ⊗ f0) (decimal 1 0)
+cutoffOf f0 = minOf (tableSizeF ⊗ f0) (decimal 1 0)
 
 -- The aux sample: through the whole part to i32.
 unfoldable pub lofi : Float → Float

@@ -72,7 +72,10 @@ fn parts_of(s: Positions) -> Parts
         x: words::held_part(s.x_lp, crate::WavetableEngine::X_TOP),
         y: words::held_part(s.y_lp, crate::WavetableEngine::Y_TOP),
         z: words::held_part(s.z_lp, crate::WavetableEngine::Z_TOP),
-        phase: words::held_part(s.phase * 128.0, crate::WavetableEngine::PHASE_TOP),
+        phase: words::held_part(
+            s.phase * crate::TABLE_SIZE_F,
+            crate::WavetableEngine::PHASE_TOP,
+        ),
     }
 }
 
@@ -80,13 +83,7 @@ fn parts_of(s: Positions) -> Parts
 fn held(p: Parts) -> usize
     ensures { λ r. ⌜ r ≡ heldOf p ⌝ }
 {
-    if p.x.held {
-        1
-    } else if p.y.held {
-        1
-    } else if p.z.held {
-        1
-    } else if p.phase.held {
+    if p.x.held || p.y.held || p.z.held || p.phase.held {
         1
     } else {
         0
@@ -144,7 +141,7 @@ fn gain(f0: f32) -> f32
 fn cutoff(f0: f32) -> f32
     ensures { λ r. ⌜ r ≡ cutoffOf f0 ⌝ }
 {
-    utils::min(128.0 * f0, 1.0)
+    utils::min(crate::TABLE_SIZE_F * f0, 1.0)
 }
 
 pub fn differentiate_all(

@@ -20,6 +20,11 @@ use utils::parameter_interpolator::ParameterInterpolator;
 pub mod frames;
 pub mod readings;
 
+// A period of a wave. In the bank, a wave has its first samples once more after its last.
+pub const TABLE_SIZE: usize = 128;
+
+pub const TABLE_SIZE_F: f32 = 128.0;
+
 // The state, in the order of its kept words.
 pub struct WavetableEngine {
     pub phase: f32,

@@ -5,14 +5,14 @@ ghost use mathlib.Core.List.{[], _∷_};
 ghost use lib.ListN.{length};
 ghost use lib.Ieee.{nan};
 ghost use Rattle.utils.proofs.Frames.{Filled};
-ghost use Rattle.wavetable_engine.specs.Wavetable.{bankLength, waves, maxFrames, spread, wave, foldLevel, cornersAt, mix, foldX, foldY, foldZ};
+ghost use Rattle.wavetable_engine.specs.Wavetable.{bankLength, waves, waveLength, tableSize, maxFrames, spread, wave, foldLevel, cornersAt, mix, foldX, foldY, foldZ};
 ghost use Rattle.wavetable_engine.specs.Stages.{KeysFit, LevelFits, placesOfLevel, placesOf, readAt, readLevel, CornersRead, stored, loaded, mixAt};
 use oscillator::wavetable_oscillator::interpolate_wave_hermite;
 
 // The bank: 192 waves of 132.
 const WAVES: usize = 192;
 
-const WAVE_LENGTH: usize = 132;
+const WAVE_LENGTH: usize = crate::TABLE_SIZE + 4;
 
 // Where the four waves of a level start.
 pub struct Level {
@@ -121,7 +121,7 @@ fn places_for(at_hand: Places, key: u32) -> Places
 
 fn read_row(bank: &[i16], a: usize, b: usize, p: usize, f: f32) -> [f32; 2]
     requires { ⌜ length (now bank) ≡ bankLength ⌝ }
-    requires { ⌜ (a < 25213) × ((b < 25213) × (p < 128)) ⌝ }
+    requires { ⌜ (a + waveLength ≤ bankLength) × ((b + waveLength ≤ bankLength) × (p < tableSize)) ⌝ }
     ensures { λ r. ⌜ r ≡ readAt (now (bank .entry)) (a + p) f ∷ readAt (now (bank .entry)) (b + p) f ∷ [] ⌝ }
 {
     let x0 = interpolate_wave_hermite(bank, a + p, f);
@@ -130,7 +130,7 @@ fn read_row(bank: &[i16], a: usize, b: usize, p: usize, f: f32) -> [f32; 2]
 }
 
 fn read_level(bank: &[i16], s: Level, p: usize, f: f32) -> [[f32; 2]; 2]
-    requires { ⌜ (length (now bank) ≡ bankLength) × (p < 128) ⌝ }
+    requires { ⌜ (length (now bank) ≡ bankLength) × (p < tableSize) ⌝ }
     requires { ⌜ LevelFits s ⌝ }
     ensures { λ r. ⌜ r ≡ readLevel (now (bank .entry)) s p f ⌝ }
 {
@@ -140,7 +140,7 @@ fn read_level(bank: &[i16], s: Level, p: usize, f: f32) -> [[f32; 2]; 2]
 }
 
 fn read_corners(bank: &[i16], s: Places, p: usize, f: f32) -> [[[f32; 2]; 2]; 2]
-    requires { ⌜ (length (now bank) ≡ bankLength) × (p < 128) ⌝ }
+    requires { ⌜ (length (now bank) ≡ bankLength) × (p < tableSize) ⌝ }
     requires { ⌜ s ≡ placesOf (s .key) ⌝ }
     ensures { λ r. ⌜ r ≡ cornersAt (now (bank .entry)) p f (s .key % 8) (s .key / 8 % 8) (s .key / 64) ⌝ }
 {
