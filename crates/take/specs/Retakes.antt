@@ -14,7 +14,7 @@ use Rattle.take.specs.Take.{Settings, Take, lent, Row, Outcome, rowCount
 -- ---- Fresh rendering.
 
 -- Rows from row i on, as many as the first number says. "It carries one state. At row 0 and at each row with restart 1 the state becomes
--- the fresh value. The row's block is then made from that state and the row ..  This gives the row's out and aux words, its `held`,
+-- the fresh value. The row's block is then made from that state and the row .. This gives the row's out and aux words, its `held`,
 -- and its 13 kept words, from which the next row starts."
 unfoldable pub freshFrom : Settings → List ℕ → ℕ → ℕ → State → List Row
 freshFrom s rows zero i st = []

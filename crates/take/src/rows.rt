@@ -175,12 +175,13 @@ fn block(
     )
 }
 
+// A row's `held`, and whether it keeps the words that stood there.
 struct Step {
     held: usize,
     same: bool,
 }
 
-// Row k, from the words kept before it: its `held`, and whether it keeps the words that stood there.
+// Row k, from the words kept before it. `keys` to `corners` are arrays to work in.
 fn row(
     instrument: u32,
     rate: u32,
@@ -256,6 +257,7 @@ fn ends(whole: bool, rows: &[u32], n: usize, k: usize, same: bool) -> bool
     same
 }
 
+// How many rows a run has rendered, and their `held` summed.
 pub struct Count {
     pub rows: usize,
     pub held: usize,

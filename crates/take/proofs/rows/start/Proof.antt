@@ -1,10 +1,12 @@
 -- `start` is `startOf`, by its three cases: row 0, a restart, the words kept before.
 use native.Mathlib.Omega.{arith}
-use Prim.Native.Nat.{_+_, _*_, _-_}
+use Prim.Native.Nat.{ℕ, _+_, _*_, _-_}
 use mathlib.Core.Path.{_≡_}
+use lib.ListN.{take, drop}
 use borrow.Author.Tests.{eq-eqb, ne-eqb}
 use borrow.Author.Needs.{needs}
-use Rattle.take.specs.Take.{startOf}
+use Rattle.voice.specs.Voice.{stateOf}
+use Rattle.take.specs.Take.{keptCount, startOf}
 use Rattle.take.proofs.rows.start.Statement.{statement}
 use Rattle.take.proofs.rows.start.Tie as tie
 
@@ -59,9 +61,11 @@ state-of-requires c κs = search needs
 returns-3 : tie.Need-returns-3
 unfolding startOf
 returns-3 c =
-    let k = c .before .before .before .before .before .args .k in
-    let d : (k - 1) * 13 + 13 - (k - 1) * 13 ≡ 13 = omega arith in
-    simp (ne-eqb _ _ (c .before .before .before .if1 .left), ne-eqb _ _ (c .before .before .if2 .left)) (rw d at (c .state-of .ensures))
+    let p = c .before .before .before .before .before .args in
+    let a : ℕ = (p .k - 1) * keptCount in
+    let d : a + keptCount - a ≡ keptCount = omega arith in
+    let e : c .state-of .result ≡ stateOf (p .instrument) (take (a + keptCount - a) (drop a (p .kept .now))) = c .state-of .ensures in
+    simp (ne-eqb _ _ (c .before .before .before .if1 .left), ne-eqb _ _ (c .before .before .if2 .left)) (rw d at e)
 
 pub start-spec : {M : Type 1} → statement M
 start-spec =
