@@ -1,49 +1,21 @@
 -- A block in stages is the block frame by frame: at each frame, what a stage leaves is what the definition has from the state before that frame.
 use mathlib.Core.Path.{_≡_, refl, sym, ap, _∙_, subst}
 use mathlib.Core.List.{List}
-use Prim.Native.Nat.{ℕ, zero, suc, _+_, _*_, _≤_, _<_}
+use Prim.Native.Nat.{ℕ, zero, suc, _+_, _≤_, _<_}
 use native.Mathlib.Omega.{arith}
 use lib.IntN.{ℤ}
 use lib.ListN.{length, getD}
 use lib.Ieee.{Float, nan, binary32, toBits}
 use Rattle.utils.specs.Frames.{stateAfter, eachOf, sumOf}
-use Rattle.utils.proofs.Frames.{
-  after-suc,
-  each-length,
-  each-at,
-  sum-most,
-  part-after,
-  Filled,
-  filled-all,
-}
+use Rattle.utils.proofs.Frames.{after-suc, each-length, each-at, sum-most, part-after, Filled, filled-all}
 use Rattle.oscillator.specs.declared.wavetable_oscillator.Differentiator.{Differentiator}
 use Rattle.utils.specs.declared.engine.EngineParameters.{EngineParameters}
 use Rattle.wavetable_engine.specs.declared.WavetableEngine.{WavetableEngine}
 use Rattle.wavetable_engine.specs.declared.SetUp.{SetUp}
 use Rattle.wavetable_engine.specs.declared.frames.Positions.{Positions}
-use Rattle.wavetable_engine.specs.declared.frames.Parts.{Parts}
 use Rattle.wavetable_engine.specs.declared.frames.Walked.{Walked}
-use Rattle.wavetable_engine.specs.Wavetable.{
-  moved,
-  partsOf,
-  reading,
-  lofi,
-  Frame,
-  framed,
-  setUp,
-  rendered,
-}
-use Rattle.wavetable_engine.specs.Stages.{
-  partsAt,
-  WalkedBy,
-  KeysFit,
-  CornersRead,
-  mixAt,
-  Differentiating,
-  differentiate,
-  differentiating,
-  sampleOf,
-}
+use Rattle.wavetable_engine.specs.Wavetable.{moved, partsOf, reading, lofi, Frame, framed, setUp, rendered}
+use Rattle.wavetable_engine.specs.Stages.{WalkedBy, KeysFit, CornersRead, mixAt, Differentiating, differentiate, differentiating, sampleOf}
 use Rattle.wavetable_engine.proofs.Keys.{key-fits, corners-by-key}
 use Rattle.wavetable_engine.proofs.Walking.{heldAt, held-most, parts-fit}
 

@@ -8,7 +8,6 @@ use lib.ListN.{getD, drop}
 use lib.Ieee.{Float, nan, binary32, le, neg, toBits}
 use Rattle.words.specs.Binary32.{_⊕_, _⊖_, _⊗_, _⊘_, decimal}
 use Rattle.words.specs.Parts.{wholeFloat, wholeI32Float, partOf}
-use Rattle.words.specs.declared.Part.{Part}
 use Rattle.utils.specs.Utils.{clampOf, minOf, onePole}
 use Rattle.utils.specs.Units.{noteToFrequency}
 use Rattle.utils.specs.Interpolator.{interpolator, stepped}

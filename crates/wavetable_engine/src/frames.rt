@@ -69,10 +69,10 @@ fn parts_of(s: Positions) -> Parts
     ensures { λ r. ⌜ r ≡ partsOf s ⌝ }
 {
     Parts {
-        x: words::held_part(s.x_lp, crate::WavetableEngine::X_TOP),
-        y: words::held_part(s.y_lp, crate::WavetableEngine::Y_TOP),
-        z: words::held_part(s.z_lp, crate::WavetableEngine::Z_TOP),
-        phase: words::held_part(
+        x: crate::parts::part(s.x_lp, crate::WavetableEngine::X_TOP),
+        y: crate::parts::part(s.y_lp, crate::WavetableEngine::Y_TOP),
+        z: crate::parts::part(s.z_lp, crate::WavetableEngine::Z_TOP),
+        phase: crate::parts::part(
             s.phase * crate::TABLE_SIZE_F,
             crate::WavetableEngine::PHASE_TOP,
         ),
