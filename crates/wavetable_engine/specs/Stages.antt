@@ -18,7 +18,7 @@ use Rattle.wavetable_engine.specs.declared.frames.Parts.{Parts}
 use Rattle.wavetable_engine.specs.declared.frames.Walked.{Walked}
 use Rattle.wavetable_engine.specs.declared.readings.Level.{Level}
 use Rattle.wavetable_engine.specs.declared.readings.Places.{Places}
-use Rattle.wavetable_engine.specs.Wavetable.{wave, waveLength, bankLength, foldLevel, moved, partsOf, heldOf, cornersAt, foldX, foldY, foldZ, cutoffOf, gainOf}
+use Rattle.wavetable_engine.specs.Wavetable.{wave, waveLength, bankLength, foldLevel, phaseTop, xTop, yTop, zTop, moved, partsOf, heldOf, cornersAt, foldX, foldY, foldZ, cutoffOf, gainOf}
 
 -- ---- the walk: where each frame reads
 
@@ -28,10 +28,10 @@ keyOf p = p .x .whole + p .y .whole * 8 + p .z .whole * 64 + p .phase .whole * 5
 
 -- The tops' part in that number.
 pub record PartsFit (p : Parts) : Type 0 where
-  pub x-fits : p .x .whole ≤ 7
-  pub y-fits : p .y .whole ≤ 7
-  pub z-fits : p .z .whole ≤ 6
-  pub phase-fits : p .phase .whole ≤ 127
+  pub x-fits : p .x .whole ≤ xTop
+  pub y-fits : p .y .whole ≤ yTop
+  pub z-fits : p .z .whole ≤ zTop
+  pub phase-fits : p .phase .whole ≤ phaseTop
 
 pub record KeyFits (key : ℕ) : Type 0 where
   pub level : key % 512 < 448

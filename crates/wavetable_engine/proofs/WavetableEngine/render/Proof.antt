@@ -1,3 +1,4 @@
+-- The block: what the stages leave behind them is the block frame by frame (Composed).
 use mathlib.Core.Path.{_∙_}
 use native.Mathlib.Omega.{arith}
 use lib.ListN.{length}

@@ -1,3 +1,4 @@
+-- The differentiator's loop, by the law that its stage goes on (Differentiating).
 use Rattle.wavetable_engine.specs.Stages.{Differentiating}
 use mathlib.Core.Path.{_≡_, refl, ap, _∙_}
 use borrow.Author.Needs.{needs}

@@ -1,3 +1,4 @@
+-- The walk's loop, by the law that a walk goes on (Walking).
 use borrow.Author.Needs.{needs}
 use Rattle.wavetable_engine.proofs.Walking.{Walking, begins, goes-on, ends, parts-fit, held-most}
 use native.Mathlib.Omega.{arith}

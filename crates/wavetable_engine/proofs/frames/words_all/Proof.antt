@@ -1,3 +1,4 @@
+-- The loop that writes the words, by the law of a list that is filled from the front.
 use mathlib.Core.Path.{_≡_, refl, _∙_}
 use borrow.Author.Needs.{needs}
 use Rattle.wavetable_engine.specs.Wavetable.{lofi}

@@ -1,3 +1,4 @@
+-- A position's parts: held between 0 and its top, its whole part is the held one, exactly (Held).
 use lib.Ieee.Casts.{toUnsigned-lt}
 use Rattle.wavetable_engine.proofs.Held.{held-lower, held-is, count-in, count-back}
 use Rattle.words.specs.Parts.{partOf}

@@ -1,3 +1,4 @@
+-- The folds' loop, by the law of a list that is filled from the front.
 use Prim.Native.Nat.{_≤_, _-_}
 use mathlib.Core.Path.{_≡_, refl, _∙_}
 use borrow.Author.Needs.{needs}

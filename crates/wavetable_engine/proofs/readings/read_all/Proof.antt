@@ -1,3 +1,4 @@
+-- The readings' loop: the places at hand are always those of the key they carry, and one more frame's corners are stored (Stored).
 use mathlib.Core.Path.{_≡_, refl, _∙_}
 use lib.ListN.{length}
 use Rattle.wavetable_engine.proofs.Corners.{own-key, by-own-key}
