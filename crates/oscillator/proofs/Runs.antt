@@ -31,6 +31,3 @@ module _ {S A : Type 0} (next : S → S) (f : S → A) (d : A) where
       let e : length (take n xs) ≡ n = length-take-le n xs (p .room) in
       ext-getD d (take n xs) (eachOf next f n s) (e ∙ sym (each-length next f n s))
       (λ j h. let l : j < n = rw e at h in getD-take n xs j d l ∙ p .done j l ∙ sym (each-at next f d n s j l))
-
-  pub run-at : (xs : List A) (n : ℕ) (s : S) → take n xs ≡ eachOf next f n s → (j : ℕ) → j < n → getD xs j d ≡ f (stateAfter next j s)
-  run-at xs n s e j h = sym (getD-take n xs j d h) ∙ ap (λ (l : List A). getD l j d) e ∙ each-at next f d n s j h

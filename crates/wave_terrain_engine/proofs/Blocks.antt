@@ -143,3 +143,13 @@ module _ (sine high low : List Float) (bank : List ℤ) (map : List ℕ) (n : �
         held-is = done .held-is ∙ rw (r1-is, r2-is, start-is, radius-is, half-is, f0-is);
         held-most = done .held-most;
       }
+
+-- ---- a block has a word for each frame
+module _ (sine high low : List Float) (bank : List ℤ) (map : List ℕ) (n : ℕ) (p : EngineParameters) (s : WaveTerrainEngine) where
+  pub out-length : length (terrainBlock sine high low bank map n p s .out) ≡ n
+  unfolding terrainBlock
+  out-length = each-length frameNext _ n _
+
+  pub aux-length : length (terrainBlock sine high low bank map n p s .aux) ≡ n
+  unfolding terrainBlock
+  aux-length = each-length frameNext _ n _

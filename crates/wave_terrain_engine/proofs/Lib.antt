@@ -1,4 +1,5 @@
--- What the proofs of this crate share.
+-- What the proofs of this crate share, and the bench values.
+pub mod Bench
 pub mod Blocks
 pub mod Counts
 pub mod Layers

@@ -12,7 +12,17 @@ use Rattle.words.specs.Binary32.{_⊖_, _⊗_, decimal, ofCount}
 use Rattle.words.specs.Parts.{wholePart, wholeFloat, partOf}
 use Rattle.words.specs.declared.Part.{Part}
 use Rattle.wave_terrain_engine.specs.Block.{scale}
-use Rattle.wave_terrain_engine.specs.Heights.{heldPlace, mapPlace, bankPlace}
+use Rattle.wave_terrain_engine.specs.Heights.{
+  heldPlace,
+  terrainSize,
+  mapEdge,
+  mapPlace,
+  tableSizeFull,
+  numWaves,
+  bankEdge,
+  bankPlace,
+}
+use Rattle.wave_terrain_engine.specs.Stages.{reach}
 use Rattle.wave_terrain_engine.specs.declared.terrain.Place.{Place}
 
 pub place-past : (edge flat : ℕ) → edge < flat → heldPlace edge flat ≡ record { flat = edge; held = 1 }
@@ -39,28 +49,28 @@ cut far a = go (ltb far a) refl
     go true q = let l : far < a = ltb-true far a q in inr (min-eq-right {n = far} {m = a} (omega arith), l)
     go false q = inl (min-eq-left (ltb-false far a q))
 
-map-place-cut : (x y : ℕ) → mapPlace (min x 65535) (min y 65535) ≡ mapPlace x y
-map-place-cut x y = same-place 4030 (64 * min y 65535 + min x 65535) (64 * y + x) (pick (cut 65535 x) (cut 65535 y))
+map-place-cut : (x y : ℕ) → mapPlace (min x reach) (min y reach) ≡ mapPlace x y
+map-place-cut x y = same-place 4030 (64 * min y reach + min x reach) (64 * y + x) (pick (cut reach x) (cut reach y))
   where
-    pick : (min x 65535 ≡ x) ⊎ ((min x 65535 ≡ 65535) × (65535 < x)) → (min y 65535 ≡ y) ⊎ ((min y 65535 ≡ 65535) × (65535 < y))
-        → (64 * min y 65535 + min x 65535 ≡ 64 * y + x) ⊎ ((4030 < 64 * min y 65535 + min x 65535) × (4030 < 64 * y + x))
+    pick : (min x reach ≡ x) ⊎ ((min x reach ≡ reach) × (reach < x)) → (min y reach ≡ y) ⊎ ((min y reach ≡ reach) × (reach < y))
+        → (64 * min y reach + min x reach ≡ 64 * y + x) ⊎ ((4030 < 64 * min y reach + min x reach) × (4030 < 64 * y + x))
     pick (inl e) (inl f) = inl (omega arith)
     pick (inl e) (inr f) = inr (omega arith)
     pick (inr e) f = inr (omega arith)
 
-bank-place-cut : (number x y : ℕ) → bankPlace number (min x 65535) (min y 65535) ≡ bankPlace number x y
-bank-place-cut number x y = same-place 25209 (8448 * number + 132 * min x 65535 + min y 65535) (8448 * number + 132 * x + y) (pick (cut 65535 x) (cut 65535 y))
+bank-place-cut : (number x y : ℕ) → bankPlace number (min x reach) (min y reach) ≡ bankPlace number x y
+bank-place-cut number x y = same-place 25209 (8448 * number + 132 * min x reach + min y reach) (8448 * number + 132 * x + y) (pick (cut reach x) (cut reach y))
   where
-    pick : (min x 65535 ≡ x) ⊎ ((min x 65535 ≡ 65535) × (65535 < x)) → (min y 65535 ≡ y) ⊎ ((min y 65535 ≡ 65535) × (65535 < y))
-        → (8448 * number + 132 * min x 65535 + min y 65535 ≡ 8448 * number + 132 * x + y) ⊎ ((25209 < 8448 * number + 132 * min x 65535 + min y 65535) × (25209 < 8448 * number + 132 * x + y))
+    pick : (min x reach ≡ x) ⊎ ((min x reach ≡ reach) × (reach < x)) → (min y reach ≡ y) ⊎ ((min y reach ≡ reach) × (reach < y))
+        → (8448 * number + 132 * min x reach + min y reach ≡ 8448 * number + 132 * x + y) ⊎ ((25209 < 8448 * number + 132 * min x reach + min y reach) × (25209 < 8448 * number + 132 * x + y))
     pick (inl e) (inl f) = inl (omega arith)
     pick (inl e) (inr f) = inr (omega arith)
     pick (inr e) f = inr (omega arith)
 
-pub map-place-of : (r : Place) (cx cy x y : ℕ) → r ≡ heldPlace 4030 (64 * cy + cx) → cx ≡ min x 65535 → cy ≡ min y 65535 → r ≡ mapPlace x y
+pub map-place-of : (r : Place) (cx cy x y : ℕ) → r ≡ heldPlace mapEdge (terrainSize * cy + cx) → cx ≡ min x reach → cy ≡ min y reach → r ≡ mapPlace x y
 map-place-of r cx cy x y e f g = e ∙ rw (f, g) (map-place-cut x y)
 
-pub bank-place-of : (r : Place) (number cx cy x y : ℕ) → r ≡ heldPlace 25209 (8448 * number + 132 * cx + cy) → cx ≡ min x 65535 → cy ≡ min y 65535 → r ≡ bankPlace number x y
+pub bank-place-of : (r : Place) (number cx cy x y : ℕ) → r ≡ heldPlace bankEdge (numWaves * tableSizeFull * number + tableSizeFull * cx + cy) → cx ≡ min x reach → cy ≡ min y reach → r ≡ bankPlace number x y
 bank-place-of r number cx cy x y e f g = e ∙ rw (f, g) (bank-place-cut number x y)
 
 -- a whole part that is not cut off leaves its fraction

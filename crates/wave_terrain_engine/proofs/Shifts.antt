@@ -9,25 +9,17 @@ use Rattle.words.specs.Parts.{partOf}
 use Rattle.words.specs.declared.Part.{Part}
 use Rattle.utils.specs.Frames.{stateAfter}
 use Rattle.oscillator.proofs.Runs.{after-more, Filling, filling-none, filling-more}
-use Rattle.wave_terrain_engine.specs.Block.{interpolatorsNext, offsetOf, layerOf, shiftedX}
+use Rattle.wave_terrain_engine.specs.Block.{interpolatorsNext, shiftedX}
+use Rattle.wave_terrain_engine.specs.Stages.{stageX, stageLayer, stageFraction}
 use Rattle.wave_terrain_engine.specs.declared.frames.Interpolators.{Interpolators}
 
 module _ (top : ℕ) (run : List Float) (s₀ : Interpolators) where
-  abbrev xAt : ℕ → Float
-  xAt j = shiftedX (getD run j nan) (offsetOf (stateAfter interpolatorsNext (j / 2) s₀))
-
-  abbrev layerAt : ℕ → ℕ
-  layerAt i = layerOf top (stateAfter interpolatorsNext i s₀) .whole
-
-  abbrev fractionAt : ℕ → Float
-  fractionAt i = layerOf top (stateAfter interpolatorsNext i s₀) .fraction
-
   pub record Shifting (n : ℕ) (xs₀ : List Float) (layers₀ : List ℕ) (fractions₀ xs : List Float) (layers : List ℕ) (fractions : List Float) (s : Interpolators) (i : ℕ) : Type 0 where
     pub at : i ≤ n
     pub state : s ≡ stateAfter interpolatorsNext i s₀
-    pub xs-are : Filling xAt nan xs₀ xs (i * 2)
-    pub layers-are : Filling layerAt 0 layers₀ layers i
-    pub fractions-are : Filling fractionAt nan fractions₀ fractions i
+    pub xs-are : Filling (stageX run s₀) nan xs₀ xs (i * 2)
+    pub layers-are : Filling (stageLayer top s₀) 0 layers₀ layers i
+    pub fractions-are : Filling (stageFraction top s₀) nan fractions₀ fractions i
 
   module _ (n : ℕ) (xs₀ : List Float) (layers₀ : List ℕ) (fractions₀ : List Float) where
     pub shifting-none : Shifting n xs₀ layers₀ fractions₀ xs₀ layers₀ fractions₀ s₀ 0
@@ -36,9 +28,9 @@ module _ (top : ℕ) (run : List Float) (s₀ : Interpolators) where
         record {
           at = omega arith;
           state = refl;
-          xs-are = filling-none xAt nan xs₀;
-          layers-are = filling-none layerAt 0 layers₀;
-          fractions-are = filling-none fractionAt nan fractions₀;
+          xs-are = filling-none (stageX run s₀) nan xs₀;
+          layers-are = filling-none (stageLayer top s₀) 0 layers₀;
+          fractions-are = filling-none (stageFraction top s₀) nan fractions₀;
         }
 
     module _ (xs : List Float) (layers : List ℕ) (fractions : List Float) (s t : Interpolators) (i : ℕ) (a b : Float) (layer : Part)
@@ -51,13 +43,13 @@ module _ (top : ℕ) (run : List Float) (s₀ : Interpolators) where
       here : t ≡ interpolatorsNext (stateAfter interpolatorsNext i s₀)
       here = step ∙ ap interpolatorsNext (p .state)
 
-      x-is : (j : ℕ) (x : Float) → j / 2 ≡ i → x ≡ shiftedX (getD run j nan) (t .offset .value) → x ≡ xAt j
+      x-is : (j : ℕ) (x : Float) → j / 2 ≡ i → x ≡ shiftedX (getD run j nan) (t .offset .value) → x ≡ stageX run s₀ j
       x-is j x e h = h ∙ rw (e, here)
 
-      two-more : Filling xAt nan xs₀ (set (set xs (i * 2) a) (i * 2 + 1) b) (i * 2 + 1 + 1)
+      two-more : Filling (stageX run s₀) nan xs₀ (set (set xs (i * 2) a) (i * 2 + 1) b) (i * 2 + 1 + 1)
       two-more =
-          filling-more xAt nan xs₀ (set xs (i * 2) a) (i * 2 + 1) b (omega arith) (x-is (i * 2 + 1) b (omega arith) b-is)
-          (filling-more xAt nan xs₀ xs (i * 2) a (omega arith) (x-is (i * 2) a (omega arith) a-is) (p .xs-are))
+          filling-more (stageX run s₀) nan xs₀ (set xs (i * 2) a) (i * 2 + 1) b (omega arith) (x-is (i * 2 + 1) b (omega arith) b-is)
+          (filling-more (stageX run s₀) nan xs₀ xs (i * 2) a (omega arith) (x-is (i * 2) a (omega arith) a-is) (p .xs-are))
 
       pub shifting-more : Shifting n xs₀ layers₀ fractions₀ (set (set xs (i * 2) a) (i * 2 + 1) b) (set layers i (layer .whole)) (set fractions i (layer .fraction)) t (i + 1)
       shifting-more =
@@ -65,7 +57,7 @@ module _ (top : ℕ) (run : List Float) (s₀ : Interpolators) where
           record {
             at = omega arith;
             state = after-more interpolatorsNext i s₀ s t step (p .state);
-            xs-are = subst (Filling xAt nan xs₀ (set (set xs (i * 2) a) (i * 2 + 1) b)) place two-more;
-            layers-are = filling-more layerAt 0 layers₀ layers i (layer .whole) (omega arith) (rw (layer-is, here)) (p .layers-are);
-            fractions-are = filling-more fractionAt nan fractions₀ fractions i (layer .fraction) (omega arith) (rw (layer-is, here)) (p .fractions-are);
+            xs-are = subst (Filling (stageX run s₀) nan xs₀ (set (set xs (i * 2) a) (i * 2 + 1) b)) place two-more;
+            layers-are = filling-more (stageLayer top s₀) 0 layers₀ layers i (layer .whole) (omega arith) (rw (layer-is, here)) (p .layers-are);
+            fractions-are = filling-more (stageFraction top s₀) nan fractions₀ fractions i (layer .fraction) (omega arith) (rw (layer-is, here)) (p .fractions-are);
           }

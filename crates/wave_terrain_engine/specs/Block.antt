@@ -18,21 +18,21 @@ use Rattle.utils.specs.Frames.{stateAfter, eachOf, sumOf}
 use Rattle.utils.specs.declared.engine.EngineParameters.{EngineParameters}
 use Rattle.oscillator.specs.Path.{pathFresh, pathRun, pathRun2, pathAfter}
 use Rattle.oscillator.specs.Sine.{sineOf}
-use Rattle.wave_terrain_engine.specs.Heights.{terrainOf}
+use Rattle.wave_terrain_engine.specs.Heights.{mapLength, bankLength, terrainOf}
 use Rattle.wave_terrain_engine.specs.declared.terrain.Reading.{Reading}
 use Rattle.wave_terrain_engine.specs.declared.frames.Interpolators.{Interpolators}
 use Rattle.wave_terrain_engine.specs.declared.WaveTerrainEngine.{WaveTerrainEngine}
 
--- "Bank: 25,344 i16, lent"; a map is "4,096 bytes", or none: "a slice, length 0 for none".
+-- What is lent: a bank, and a map or none, "a slice, length 0 for none".
 pub record Lent (bank : List ℤ) (map : List ℕ) : Type 0 where
-  pub bank-long : length bank ≡ 25344
-  pub map-long : (length map ≡ 0) ⊎ (length map ≡ 4096)
+  pub bank-long : length bank ≡ bankLength
+  pub map-long : (length map ≡ 0) ⊎ (length map ≡ mapLength)
 
 -- What `init` leaves.
 abbrev pub terrainFresh : WaveTerrainEngine
 terrainFresh = record { path = pathFresh; offset = decimal 0 0; «terrain_idx» = decimal 0 0 }
 
--- "`OVERSAMPLING` is 2 here".
+-- "`OVERSAMPLING` is 2 here", and SCALE.
 abbrev pub oversampling : ℕ
 oversampling = 2
 
@@ -139,7 +139,7 @@ interpolatorsOf map p s n =
           n;
     }
 
--- What a block gives: its words, the next state, and the readings held.
+-- What a block gives: its words, the next state, and how many readings were held.
 pub record TerrainBlock : Type 0 where
   pub out : List ℕ
   pub aux : List ℕ

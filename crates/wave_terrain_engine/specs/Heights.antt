@@ -59,7 +59,10 @@ module _ (sine : List Float) (x y : Float) where
 abbrev pub heldPlace : ℕ → ℕ → Place
 heldPlace edge flat = record { flat = min flat edge; held = cond (ltb edge flat) 1 0 }
 
--- "64 rows of 64"; "flat is held at 4,030 (map)".
+-- A map has "4,096 bytes, 64 rows of 64"; "flat is held at 4,030 (map)".
+abbrev pub mapLength : ℕ
+mapLength = 4096
+
 abbrev pub terrainSize : ℕ
 terrainSize = 64
 
@@ -84,7 +87,10 @@ terrainLookup map x y =
       held = place .held;
     }
 
--- The bank as terrain: 3 banks of 64 waves of 132 samples; "flat is held at 25,209 (bank)".
+-- "Bank: 25,344 i16", read as three terrains of 64 waves of 132 samples; "flat is held at 25,209 (bank)".
+abbrev pub bankLength : ℕ
+bankLength = 25344
+
 abbrev pub tableSize : ℕ
 tableSize = 128
 

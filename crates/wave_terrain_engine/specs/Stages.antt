@@ -8,13 +8,17 @@ use lib.Ieee.{Float, nan, binary32, toBits}
 use Rattle.utils.specs.Frames.{stateAfter}
 use Rattle.oscillator.specs.Sine.{sineOf}
 use Rattle.wave_terrain_engine.specs.Heights.{terrainOf}
-use Rattle.wave_terrain_engine.specs.Block.{interpolatorsNext, offsetOf, layerOf, shiftedX, between, outOf, phaseOf, framesOut, framesAux, framesHeld}
+use Rattle.wave_terrain_engine.specs.Block.{oversampling, interpolatorsNext, offsetOf, layerOf, shiftedX, between, outOf, phaseOf, framesOut, framesAux, framesHeld}
 use Rattle.wave_terrain_engine.specs.declared.frames.Interpolators.{Interpolators}
 use Rattle.wave_terrain_engine.specs.declared.terrain.Reading.{Reading}
 
+-- Whole parts of coordinates are cut off above every edge: that moves no place.
+abbrev pub reach : ℕ
+reach = 65535
+
 -- x of oversample j.
 abbrev pub stageX : List Float → Interpolators → ℕ → Float
-stageX run start j = shiftedX (getD run j nan) (offsetOf (stateAfter interpolatorsNext (j / 2) start))
+stageX run start j = shiftedX (getD run j nan) (offsetOf (stateAfter interpolatorsNext (j / oversampling) start))
 
 -- The layer of frame i, whole and fraction.
 abbrev pub stageLayer : ℕ → Interpolators → ℕ → ℕ
@@ -25,7 +29,7 @@ stageFraction top start i = layerOf top (stateAfter interpolatorsNext i start) .
 
 -- The height at oversample j, `up` layers above its frame's.
 abbrev pub stageHeight : List Float → List ℤ → List ℕ → List Float → List Float → List ℕ → ℕ → ℕ → Reading
-stageHeight sine bank map xs ys layers up j = terrainOf sine bank map (getD xs j nan) (getD ys j nan) (getD layers (j / 2) 0 + up)
+stageHeight sine bank map xs ys layers up j = terrainOf sine bank map (getD xs j nan) (getD ys j nan) (getD layers (j / oversampling) 0 + up)
 
 module _ (ys fractions z0s z1s : List Float) where
   -- z of oversample j of frame i.
@@ -34,10 +38,10 @@ module _ (ys fractions z0s z1s : List Float) where
 
   -- The out word of frame i, and the phase of its aux.
   abbrev pub stageOut : ℕ → ℕ
-  stageOut i = toBits binary32 (outOf (stageZ i (i * 2)) (stageZ i (i * 2 + 1)))
+  stageOut i = toBits binary32 (outOf (stageZ i (i * oversampling)) (stageZ i (i * oversampling + 1)))
 
   abbrev pub stagePhase : ℕ → Float
-  stagePhase i = phaseOf (getD ys (i * 2) nan) (stageZ i (i * 2)) (getD ys (i * 2 + 1) nan) (stageZ i (i * 2 + 1))
+  stagePhase i = phaseOf (getD ys (i * oversampling) nan) (stageZ i (i * oversampling)) (getD ys (i * oversampling + 1) nan) (stageZ i (i * oversampling + 1))
 
 -- The aux word of frame i.
 abbrev pub stageAux : List Float → List Float → ℕ → ℕ
@@ -45,10 +49,10 @@ stageAux sine phases i = toBits binary32 (sineOf sine (getD phases i nan))
 
 -- Room for the oversamples and the frames of n frames.
 pub record Room (n : ℕ) (run run2 xs z1s : List Float) (layers : List ℕ) (fractions : List Float) : Type 0 where
-  pub run-room : n * 2 ≤ length run
-  pub run2-room : n * 2 ≤ length run2
-  pub xs-room : n * 2 ≤ length xs
-  pub z1s-room : n * 2 ≤ length z1s
+  pub run-room : n * oversampling ≤ length run
+  pub run2-room : n * oversampling ≤ length run2
+  pub xs-room : n * oversampling ≤ length xs
+  pub z1s-room : n * oversampling ≤ length z1s
   pub layers-room : n ≤ length layers
   pub fractions-room : n ≤ length fractions
 

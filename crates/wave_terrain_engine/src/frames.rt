@@ -6,16 +6,16 @@ ghost use lib.ListN.{length, getD, take};
 ghost use lib.Ieee.{nan};
 ghost use Rattle.utils.specs.Frames.{stateAfter, sumOf};
 ghost use Rattle.utils.proofs.Frames.{Filled};
-ghost use Rattle.wave_terrain_engine.specs.Block.{Lent, layerTop, interpolatorsNext, shiftedX, between, outOf, phaseOf};
+ghost use Rattle.wave_terrain_engine.specs.Block.{Lent, oversampling, layerTop, interpolatorsNext, shiftedX, between, outOf, phaseOf};
 ghost use Rattle.wave_terrain_engine.specs.Stages.{stageX, stageLayer, stageFraction, stageHeight, stageOut, stagePhase, stageAux, Room, FramesDone};
 use crate::terrain::terrain;
 use oscillator::sine_oscillator::sine;
 use utils::parameter_interpolator::ParameterInterpolator;
 
-// Samples of the path for each frame.
+// Samples of the path for each frame, and their weight.
 pub const OVERSAMPLING: usize = 2;
 
-pub const SCALE: f32 = 1.0 / 2.0;
+pub const SCALE: f32 = 1.0 / OVERSAMPLING as f32;
 
 // What the frame loop interpolates: the path's offset and the layer.
 pub struct Interpolators {
@@ -55,9 +55,9 @@ pub fn shift(
     fractions: &mut [f32],
 ) -> Interpolators
     requires { ⌜ top ≤ 7 ⌝ }
-    requires { ⌜ (n * 2 ≤ length (now run)) × ((n * 2 ≤ length (now xs)) × ((n ≤ length (now layers)) × (n ≤ length (now fractions)))) ⌝ }
+    requires { ⌜ (n * oversampling ≤ length (now run)) × ((n * oversampling ≤ length (now xs)) × ((n ≤ length (now layers)) × (n ≤ length (now fractions)))) ⌝ }
     ensures { λ r. ⌜ r ≡ stateAfter interpolatorsNext n start ⌝ }
-    ensures { λ _. ⌜ Filled (stageX (now (run .entry)) start) nan (now (xs .exit)) (n * 2) ⌝ }
+    ensures { λ _. ⌜ Filled (stageX (now (run .entry)) start) nan (now (xs .exit)) (n * oversampling) ⌝ }
     ensures { λ _. ⌜ Filled (stageLayer top start) 0 (now (layers .exit)) n ⌝ }
     ensures { λ _. ⌜ Filled (stageFraction top start) nan (now (fractions .exit)) n ⌝ }
 {
@@ -66,7 +66,7 @@ pub fn shift(
     while i < n {
         s = s.next();
         let x_offset = s.offset.value;
-        let ij = i * 2;
+        let ij = i * OVERSAMPLING;
         xs[ij] = shifted_x(run[ij], x_offset);
         xs[ij + 1] = shifted_x(run[ij + 1], x_offset);
         let layer = words::held_part(s.terrain_idx.value, top);
@@ -90,8 +90,8 @@ pub fn heights(
     zs: &mut [f32],
 ) -> usize
     requires { ⌜ Lent (now bank) (now map) ⌝ }
-    requires { ⌜ (n ≤ length (now xs)) × ((n ≤ length (now ys)) × ((n ≤ length (now layers) * 2) × (n ≤ length (now zs)))) ⌝ }
-    requires { ⌜ ((j : ℕ) → j < n → getD (now layers) (j / 2) 0 + up ≤ layerTop (now map) + 1) ⌝ }
+    requires { ⌜ (n ≤ length (now xs)) × ((n ≤ length (now ys)) × ((n ≤ length (now layers) * oversampling) × (n ≤ length (now zs)))) ⌝ }
+    requires { ⌜ ((j : ℕ) → j < n → getD (now layers) (j / oversampling) 0 + up ≤ layerTop (now map) + 1) ⌝ }
     ensures { λ r. ⌜ r ≤ n ⌝ }
     ensures { λ r. ⌜ r ≡ sumOf suc (λ (j : ℕ). stageHeight (now (table .entry)) (now (bank .entry)) (now (map .entry)) (now (xs .entry)) (now (ys .entry)) (now (layers .entry)) up j .held) n 0 ⌝ }
     ensures { λ _. ⌜ Filled (λ (j : ℕ). stageHeight (now (table .entry)) (now (bank .entry)) (now (map .entry)) (now (xs .entry)) (now (ys .entry)) (now (layers .entry)) up j .value) nan (now (zs .exit)) n ⌝ }
@@ -99,7 +99,7 @@ pub fn heights(
     let mut held = 0;
     let mut i = 0;
     while i < n {
-        let layer = layers[i / 2] as usize;
+        let layer = layers[i / OVERSAMPLING] as usize;
         let z = terrain(table, bank, map, xs[i], ys[i], layer + up);
         zs[i] = z.value;
         held += z.held;
@@ -142,14 +142,14 @@ pub fn sums(
     phases: &mut [f32],
     out: &mut [u32],
 )
-    requires { ⌜ (length (now out) * 2 ≤ length (now ys)) × ((length (now out) * 2 ≤ length (now z0s)) × (length (now out) * 2 ≤ length (now z1s))) ⌝ }
+    requires { ⌜ (length (now out) * oversampling ≤ length (now ys)) × ((length (now out) * oversampling ≤ length (now z0s)) × (length (now out) * oversampling ≤ length (now z1s))) ⌝ }
     requires { ⌜ (length (now out) ≤ length (now fractions)) × (length (now out) ≤ length (now phases)) ⌝ }
     ensures { λ _. ⌜ Filled (stagePhase (now (ys .entry)) (now (fractions .entry)) (now (z0s .entry)) (now (z1s .entry))) nan (now (phases .exit)) (length (now (out .entry))) ⌝ }
     ensures { λ _. ⌜ Filled (stageOut (now (ys .entry)) (now (fractions .entry)) (now (z0s .entry)) (now (z1s .entry))) 0 (now (out .exit)) (length (now (out .entry))) ⌝ }
 {
     let mut i = 0;
     while i < out.len() {
-        let ij = i * 2;
+        let ij = i * OVERSAMPLING;
         let z = between_at(z0s, z1s, ij, fractions[i]);
         let z_2 = between_at(z0s, z1s, ij + 1, fractions[i]);
         phases[i] = aux_phase(ys[ij], z, ys[ij + 1], z_2);
@@ -196,12 +196,32 @@ pub fn render_frames(
     requires { ⌜ (top ≡ layerTop (now map)) × (length (now aux) ≡ length (now out)) ⌝ }
     requires { ⌜ Room (length (now out)) (now run) (now «run_2») (now xs) (now z1s) (now layers) (now fractions) ⌝ }
     ensures { λ r. ⌜ r .end ≡ stateAfter interpolatorsNext (length (now (out .entry))) start ⌝ }
-    ensures { λ r. ⌜ FramesDone (now (table .entry)) (now (bank .entry)) (now (map .entry)) (take (2 * length (now (out .entry))) (now (run .entry))) (take (2 * length (now (out .entry))) (now («run_2» .entry))) start (length (now (out .entry))) (r .held) (now (out .exit)) (now (aux .exit)) ⌝ }
+    ensures { λ r. ⌜ FramesDone (now (table .entry)) (now (bank .entry)) (now (map .entry)) (take (oversampling * length (now (out .entry))) (now (run .entry))) (take (oversampling * length (now (out .entry))) (now («run_2» .entry))) start (length (now (out .entry))) (r .held) (now (out .exit)) (now (aux .exit)) ⌝ }
 {
     let n = out.len();
     let end = shift(start, n, top, run, xs, layers, fractions);
-    let held = heights(n * 2, 0, table, bank, map, xs, run_2, layers, run);
-    let held_2 = heights(n * 2, 1, table, bank, map, xs, run_2, layers, z1s);
+    let held = heights(
+        n * OVERSAMPLING,
+        0,
+        table,
+        bank,
+        map,
+        xs,
+        run_2,
+        layers,
+        run,
+    );
+    let held_2 = heights(
+        n * OVERSAMPLING,
+        1,
+        table,
+        bank,
+        map,
+        xs,
+        run_2,
+        layers,
+        z1s,
+    );
     sums(run_2, fractions, run, z1s, xs, out);
     finish(table, xs, aux);
     Frames {

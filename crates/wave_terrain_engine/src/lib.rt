@@ -124,10 +124,10 @@ impl WaveTerrainEngine {
         ensures { λ r. ⌜ r ≡ interpolatorsOf (now (map .entry)) parameters self n ⌝ }
     {
         let offset = ParameterInterpolator::new(self.offset, 1.9 * parameters.morph - 1.0, n);
-        let num_terrains = words::float_of_u64(terrain_count(map) as u64);
+        let count = words::float_of_u64(num_terrains(map) as u64);
         let terrain_idx = ParameterInterpolator::new(
             self.terrain_idx,
-            utils::min(parameters.harmonics * 1.05, 1.0) * (num_terrains - 1.0001),
+            utils::min(parameters.harmonics * 1.05, 1.0) * (count - 1.0001),
             n,
         );
         Interpolators {
@@ -147,7 +147,7 @@ fn radius_at(f0: f32, timbre: f32) -> f32
 }
 
 // How many terrains there are.
-fn terrain_count(map: &[u8]) -> usize
+fn num_terrains(map: &[u8]) -> usize
     ensures { λ r. ⌜ r ≡ numTerrains (now (map .entry)) ⌝ }
 {
     if map.len() == 0 { 8 } else { 9 }

@@ -6,7 +6,8 @@ ghost use lib.ListN.{length};
 ghost use Rattle.words.specs.Binary32.{_⊖_};
 ghost use Rattle.words.specs.Parts.{wholePart, wholeFloat};
 ghost use Rattle.wave_terrain_engine.specs.Block.{Lent, layerTop};
-ghost use Rattle.wave_terrain_engine.specs.Heights.{squashOf, terrain0, terrain1, terrain2, terrain3, terrain4, heldPlace, terrainLookup, terrainLookupWt, terrainOf};
+ghost use Rattle.wave_terrain_engine.specs.Stages.{reach};
+ghost use Rattle.wave_terrain_engine.specs.Heights.{mapLength, bankLength, squashOf, terrain0, terrain1, terrain2, terrain3, terrain4, heldPlace, terrainLookup, terrainLookupWt, terrainOf};
 use oscillator::sine_oscillator::sine;
 use oscillator::wavetable_oscillator::interpolate_integrated_wave;
 use oscillator::wavetable_oscillator::interpolate_wave_u8;
@@ -29,16 +30,22 @@ struct Coordinate {
     fraction: f32,
 }
 
-// Rows and columns of a map.
+// Rows and columns of a map, and half of the columns that a reading can start in.
 const TERRAIN_SIZE: usize = 64;
 
-// Samples of a wave in the bank, 4 of them wrapped, and waves of each of its three parts.
+const COORD_SCALE: f32 = 62.0 * 0.5;
+
+// Samples of a wave in the bank, without and with its 4 wrapped ones, and waves of each of the three terrains in it.
+const TABLE_SIZE: f32 = 128.0;
+
 const TABLE_SIZE_FULL: usize = 132;
 
 const NUM_WAVES: usize = 64;
 
-// A whole part above every edge.
-const FAR: usize = 65535;
+const LAST_WAVE: f32 = 63.0;
+
+// Where the whole part of a coordinate is cut off: above every edge.
+const REACH: usize = 65535;
 
 // The Sine function only works for a positive argument.
 // Thus, all calls to Sine include a positive offset of the argument!
@@ -52,6 +59,7 @@ fn squash(x: f32, a: f32) -> f32
     xa / (1.0 + utils::abs(xa))
 }
 
+// Layers 0 to 4, by formula.
 fn terrain_0(table: &[f32; 641], x: f32, y: f32) -> f32
     ensures { λ r. ⌜ r ≡ terrain0 (now (table .entry)) x y ⌝ }
 {
@@ -99,10 +107,10 @@ fn terrain_4(table: &[f32; 641], x: f32, y: f32) -> f32
 
 // The fraction is taken against the true whole part.
 fn coordinate_at(x: f32) -> Coordinate
-    ensures { λ r. ⌜ r .whole ≡ min (wholePart x) 65535 ⌝ }
+    ensures { λ r. ⌜ r .whole ≡ min (wholePart x) reach ⌝ }
     ensures { λ r. ⌜ r .fraction ≡ x ⊖ wholeFloat x ⌝ }
 {
-    let part = words::held_part(x, FAR);
+    let part = words::held_part(x, REACH);
     if part.held {
         Coordinate {
             whole: part.whole,
@@ -132,11 +140,11 @@ fn held_place(edge: usize, flat: usize) -> Place
 
 // The map's height at a point.
 fn terrain_lookup(map: &[u8], x: f32, y: f32) -> Reading
-    requires { ⌜ length (now map) ≡ 4096 ⌝ }
+    requires { ⌜ length (now map) ≡ mapLength ⌝ }
     ensures { λ r. ⌜ r ≡ terrainLookup (now (map .entry)) x y ⌝ }
 {
-    let cx = coordinate_at((x + 1.0) * 31.0);
-    let cy = coordinate_at((y + 1.0) * 31.0);
+    let cx = coordinate_at((x + 1.0) * COORD_SCALE);
+    let cy = coordinate_at((y + 1.0) * COORD_SCALE);
     let place = held_place(
         crate::WaveTerrainEngine::MAP_EDGE,
         TERRAIN_SIZE * cy.whole + cx.whole,
@@ -150,13 +158,13 @@ fn terrain_lookup(map: &[u8], x: f32, y: f32) -> Reading
 }
 
 // Lookup from the wavetable data re-interpreted as a terrain. :facepalm:
-// `number` picks one of the bank's three parts.
+// `number` picks one of the three terrains in the bank.
 fn terrain_lookup_wt(bank: &[i16], x: f32, y: f32, number: usize) -> Reading
-    requires { ⌜ (length (now bank) ≡ 25344) × (number ≤ 2) ⌝ }
+    requires { ⌜ (length (now bank) ≡ bankLength) × (number ≤ 2) ⌝ }
     ensures { λ r. ⌜ r ≡ terrainLookupWt (now (bank .entry)) x y number ⌝ }
 {
-    let sample = coordinate_at((y + 1.0) * 0.5 * 128.0);
-    let wt = coordinate_at((x + 1.0) * 0.5 * 63.0);
+    let sample = coordinate_at((y + 1.0) * 0.5 * TABLE_SIZE);
+    let wt = coordinate_at((x + 1.0) * 0.5 * LAST_WAVE);
     let place = held_place(
         crate::WaveTerrainEngine::BANK_EDGE,
         NUM_WAVES * TABLE_SIZE_FULL * number + TABLE_SIZE_FULL * wt.whole + sample.whole,

@@ -1,14 +1,10 @@
 use borrow.Author.Tests.{eq-eqb, ne-eqb}
 use Rattle.wave_terrain_engine.proofs.layer_top.Statement.{statement}
 use Rattle.wave_terrain_engine.proofs.layer_top.Tie as tie
-use Rattle.wave_terrain_engine.proofs.layer_top.Reads as reads
-use Rattle.wave_terrain_engine.proofs.layer_top.Lts as lts
 
--- src/lib.rt:165:1
 returns : tie.Need-returns
 returns c = simp (eq-eqb _ _ (c .if1 .taken))
 
--- src/lib.rt:165:1
 returns-2 : tie.Need-returns-2
 returns-2 c = simp (ne-eqb _ _ (c .if1 .left))
 

@@ -4,10 +4,7 @@ use Rattle.words.specs.Binary32.{decimal}
 use Rattle.oscillator.specs.Path.{fast2Sin}
 use Rattle.oscillator.proofs.sine_oscillator.fast_2_sin.Statement.{statement}
 use Rattle.oscillator.proofs.sine_oscillator.fast_2_sin.Tie as tie
-use Rattle.oscillator.proofs.sine_oscillator.fast_2_sin.Reads as reads
-use Rattle.oscillator.proofs.sine_oscillator.fast_2_sin.Lts as lts
 
--- src/sine_oscillator.rt:151:1
 returns : tie.Need-returns
 unfolding fast2Sin ofBits decimal
 returns c = refl

@@ -2,15 +2,11 @@ use lib.Ieee.{ofBits}
 use Rattle.words.specs.Binary32.{decimal}
 use Rattle.oscillator.proofs.sine_oscillator.limited_frequency.Statement.{statement}
 use Rattle.oscillator.proofs.sine_oscillator.limited_frequency.Tie as tie
-use Rattle.oscillator.proofs.sine_oscillator.limited_frequency.Reads as reads
-use Rattle.oscillator.proofs.sine_oscillator.limited_frequency.Lts as lts
 
--- src/sine_oscillator.rt:122:1
 returns : tie.Need-returns
 unfolding ofBits decimal
 returns c = simp (c .if1 .taken)
 
--- src/sine_oscillator.rt:122:1
 returns-2 : tie.Need-returns-2
 unfolding ofBits decimal
 returns-2 c = simp (c .if1 .left)

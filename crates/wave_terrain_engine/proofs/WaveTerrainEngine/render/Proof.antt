@@ -1,3 +1,4 @@
+-- The path and then the frames are the block, by the law of `Blocks`.
 use mathlib.Core.Path.{_≡_, sym}
 use lib.Ieee.{binary32, ofBits}
 use Rattle.words.specs.Binary32.{decimal}
@@ -8,40 +9,25 @@ use native.Mathlib.Omega.{arith}
 use borrow.Author.Needs.{needs}
 use Rattle.wave_terrain_engine.proofs.WaveTerrainEngine.render.Statement.{statement}
 use Rattle.wave_terrain_engine.proofs.WaveTerrainEngine.render.Tie as tie
-use Rattle.wave_terrain_engine.proofs.WaveTerrainEngine.render.Reads as reads
-use Rattle.wave_terrain_engine.proofs.WaveTerrainEngine.render.Lts as lts
-use Rattle.oscillator.proofs.sine_oscillator.FastSineOscillator.render_quadrature.Reads as render-quadrature-reads
-use Rattle.utils.proofs.engine.note_to_frequency.Reads as note-to-frequency-reads
-use Rattle.wave_terrain_engine.proofs.WaveTerrainEngine.interpolators.Reads as interpolators-reads
-use Rattle.wave_terrain_engine.proofs.frames.render_frames.Reads as render-frames-reads
-use Rattle.wave_terrain_engine.proofs.layer_top.Reads as layer-top-reads
-use Rattle.wave_terrain_engine.proofs.radius_at.Reads as radius-at-reads
 
--- src/lib.rt:80:13
 note-to-frequency-requires : tie.Need-note-to-frequency-requires
 note-to-frequency-requires c κs = search needs
 
--- src/lib.rt:86:13
 radius-at-requires : tie.Need-radius-at-requires
 radius-at-requires c κs = search needs
 
--- src/lib.rt:90:13
 mul-render-quadrature : tie.Need-mul-render-quadrature
 mul-render-quadrature c = search needs
 
--- src/lib.rt:87:13
 render-quadrature-requires : tie.Need-render-quadrature-requires
 render-quadrature-requires c κs = search needs
 
--- src/lib.rt:94:13
 interpolators-requires : tie.Need-interpolators-requires
 interpolators-requires c κs = search needs
 
--- src/lib.rt:97:13
 layer-top-requires : tie.Need-layer-top-requires
 layer-top-requires c κs = search needs
 
--- src/lib.rt:95:13
 render-frames-requires : tie.Need-render-frames-requires
 render-frames-requires c κs =
     let pre = c .before .before .before .before .before .before .before .before .before .before .before .before .before .before .before .before .before .before .before .pre in (
@@ -59,15 +45,12 @@ render-frames-requires c κs =
       ),
     )
 
--- src/lib.rt:58:5
 same-length : tie.Need-same-length
 same-length c = search needs
 
--- src/lib.rt:58:5
 same-length-2 : tie.Need-same-length-2
 same-length-2 c = search needs
 
--- src/lib.rt:58:5
 half-is : ofBits binary32 1056964608 ≡ scale
 unfolding ofBits decimal
 half-is = sym scale-half

@@ -1,3 +1,4 @@
+-- The loop over the sines of aux, by the law of lent runs that a loop fills.
 use borrow.Author.Needs.{needs}
 use native.Mathlib.Omega.{arith}
 use Prim.Native.Nat.{_-_, _≤_, zero-le}
@@ -8,10 +9,6 @@ use Rattle.oscillator.proofs.Runs.{Filling, filling-none, filling-more}
 use Rattle.wave_terrain_engine.specs.Stages.{stageAux}
 use Rattle.wave_terrain_engine.proofs.frames.finish.Statement.{statement}
 use Rattle.wave_terrain_engine.proofs.frames.finish.Tie as tie
-use Rattle.wave_terrain_engine.proofs.frames.finish.Reads as reads
-use Rattle.wave_terrain_engine.proofs.frames.finish.Lts as lts
-use Rattle.oscillator.proofs.sine_oscillator.sine.Reads as sine-reads
-use Rattle.words.proofs.to_word.Reads as to-word-reads
 
 abbrev Inv-loop : tie.InvT-loop
 Inv-loop table phases aux₀ i₀ aux i =
@@ -20,53 +17,41 @@ Inv-loop table phases aux₀ i₀ aux i =
 abbrev μ-loop : tie.MeasureT-loop
 μ-loop table phases aux₀ i₀ aux i = length aux₀ - i
 
--- src/frames.rt:165:5
 loop-holds : tie.Need-loop-holds Inv-loop μ-loop
 loop-holds c = (zero-le, filling-none _ _ _)
 
--- src/frames.rt:166:45
 mul-sine : tie.Need-mul-sine Inv-loop μ-loop
 mul-sine c = search needs
 
--- src/frames.rt:166:45
 shared-slice-read-sine : tie.Need-shared-slice-read-sine Inv-loop μ-loop
 shared-slice-read-sine c = search needs
 
--- src/frames.rt:166:33
 sine-requires : tie.Need-sine-requires Inv-loop μ-loop
 sine-requires c κs = search needs
 
--- src/frames.rt:166:18
 to-word-requires : tie.Need-to-word-requires Inv-loop μ-loop
 to-word-requires c κs = search needs
 
--- src/frames.rt:166:9
 mul-aux : tie.Need-mul-aux Inv-loop μ-loop
 mul-aux c = search needs
 
--- src/frames.rt:166:9
 slice-write-aux : tie.Need-slice-write-aux Inv-loop μ-loop
 slice-write-aux c = search needs
 
--- src/frames.rt:167:9
 add-i : tie.Need-add-i Inv-loop μ-loop
 add-i c = search needs
 
--- src/frames.rt:165:5
 loop-less : tie.Need-loop-less Inv-loop μ-loop
 loop-less c = search needs
 
--- src/frames.rt:165:5
 loop-again : tie.Need-loop-again Inv-loop μ-loop
 loop-again c =
     let inv = c .before .before .before .before .loop .inv in
     (search needs, filling-more _ _ _ _ _ _ (search needs) (c .to-word .ensures ∙ ap (toBits binary32) (c .before .sine .ensures)) (inv .1))
 
--- src/frames.rt:160:1
 same-length : tie.Need-same-length Inv-loop μ-loop
 same-length c = search needs
 
--- src/frames.rt:160:1
 returns : tie.Need-returns Inv-loop μ-loop
 returns c =
     let e : c .before .loop .i ≡ length (c .before .before .before .before .args .aux .now) = omega (arith, c .before .loop .inv .1 .long) in

@@ -1,3 +1,4 @@
+-- The loop over the heights of a layer, by the law of lent runs that a loop fills and the law of counts.
 use borrow.Author.Needs.{needs}
 use native.Mathlib.Omega.{arith}
 use Prim.Native.Nat.{ℕ, suc, _-_, _/_, _≤_, zero-le}
@@ -11,9 +12,6 @@ use Rattle.wave_terrain_engine.proofs.Counts.{count-none, count-more}
 use Rattle.wave_terrain_engine.proofs.Layers.{top-most, reading-held, stage-held}
 use Rattle.wave_terrain_engine.proofs.frames.heights.Statement.{statement}
 use Rattle.wave_terrain_engine.proofs.frames.heights.Tie as tie
-use Rattle.wave_terrain_engine.proofs.frames.heights.Reads as reads
-use Rattle.wave_terrain_engine.proofs.frames.heights.Lts as lts
-use Rattle.wave_terrain_engine.proofs.terrain.terrain.Reads as terrain-reads
 
 abbrev Inv-loop : tie.InvT-loop
 Inv-loop n up table bank map xs ys layers zs₀ held₀ i₀ zs held i =
@@ -24,72 +22,56 @@ Inv-loop n up table bank map xs ys layers zs₀ held₀ i₀ zs held i =
 abbrev μ-loop : tie.MeasureT-loop
 μ-loop n up table bank map xs ys layers zs₀ held₀ i₀ zs held i = n - i
 
--- src/frames.rt:99:5
 loop-holds : tie.Need-loop-holds Inv-loop μ-loop
 loop-holds c = (zero-le, (count-none _, filling-none _ _ _))
 
--- src/frames.rt:100:21
 mul-layer : tie.Need-mul-layer Inv-loop μ-loop
 mul-layer c = search needs
 
--- src/frames.rt:100:21
 shared-slice-read-layer : tie.Need-shared-slice-read-layer Inv-loop μ-loop
 shared-slice-read-layer c = search needs
 
--- src/frames.rt:100:21
 cast-layer : tie.Need-cast-layer Inv-loop μ-loop
 cast-layer c = omega (arith, c .shared-slice-known5 .given (c .before .before .loop .i / 2))
 
--- src/frames.rt:101:43
 mul-terrain : tie.Need-mul-terrain Inv-loop μ-loop
 mul-terrain c = search needs
 
--- src/frames.rt:101:43
 shared-slice-read-terrain : tie.Need-shared-slice-read-terrain Inv-loop μ-loop
 shared-slice-read-terrain c = search needs
 
--- src/frames.rt:101:50
 mul-terrain-2 : tie.Need-mul-terrain-2 Inv-loop μ-loop
 mul-terrain-2 c = search needs
 
--- src/frames.rt:101:50
 shared-slice-read-terrain-2 : tie.Need-shared-slice-read-terrain-2 Inv-loop μ-loop
 shared-slice-read-terrain-2 c = search needs
 
--- src/frames.rt:101:57
 add-terrain : tie.Need-add-terrain Inv-loop μ-loop
 add-terrain c =
     let entry = c .before .before .before .before .before .before .before .before .before .before in
     record { fits = omega (arith, entry .pre .1 .1 (c .before .before .before .before .loop .i) (search needs), top-most (entry .args .map .now)) }
 
--- src/frames.rt:101:13
 terrain-requires : tie.Need-terrain-requires Inv-loop μ-loop
 terrain-requires c κs = (c .before .before .before .before .before .before .before .before .before .before .pre .0, c .before .before .before .before .before .before .before .before .before .before .pre .1 .1 (c .before .before .before .before .loop .i) (search needs))
 
--- src/frames.rt:102:9
 mul-zs : tie.Need-mul-zs Inv-loop μ-loop
 mul-zs c = search needs
 
--- src/frames.rt:102:9
 slice-write-zs : tie.Need-slice-write-zs Inv-loop μ-loop
 slice-write-zs c = search needs
 
--- src/frames.rt:103:9
 add-held : tie.Need-add-held Inv-loop μ-loop
 add-held c =
     let a = c .before .before .before .before .before .before .before .before .before .before .before .before .args in
     let few = stage-held (a .table .now) (a .bank .now) (a .map .now) (a .xs .now) (a .ys .now) (a .layers .now) (a .up) _ _ (c .before .before .before .before .before .before .loop .inv .1 .0) in
     record { fits = omega (arith, few, reading-held _ _ _ _ _ _ _ (c .before .terrain .ensures)) }
 
--- src/frames.rt:104:9
 add-i : tie.Need-add-i Inv-loop μ-loop
 add-i c = search needs
 
--- src/frames.rt:99:5
 loop-less : tie.Need-loop-less Inv-loop μ-loop
 loop-less c = search needs
 
--- src/frames.rt:99:5
 loop-again : tie.Need-loop-again Inv-loop μ-loop
 loop-again c =
     let inv = c .before .before .before .before .before .before .loop .inv in
@@ -101,11 +83,9 @@ loop-again c =
       ),
     )
 
--- src/frames.rt:80:1
 same-length : tie.Need-same-length Inv-loop μ-loop
 same-length c = search needs
 
--- src/frames.rt:80:1
 returns : tie.Need-returns Inv-loop μ-loop
 returns c =
     let inv = c .before .loop .inv in

@@ -3,10 +3,7 @@ use Rattle.words.specs.Binary32.{decimal}
 use Rattle.wave_terrain_engine.proofs.Places.{scale-half}
 use Rattle.wave_terrain_engine.proofs.frames.out_sample.Statement.{statement}
 use Rattle.wave_terrain_engine.proofs.frames.out_sample.Tie as tie
-use Rattle.wave_terrain_engine.proofs.frames.out_sample.Reads as reads
-use Rattle.wave_terrain_engine.proofs.frames.out_sample.Lts as lts
 
--- src/frames.rt:121:1
 returns : tie.Need-returns
 unfolding ofBits decimal
 returns c = rw scale-half

@@ -1,3 +1,4 @@
+-- The short loops leave what the frame loop does, by the law of `Blocks`.
 use Prim.Native.Nat.{_*_}
 use mathlib.Core.Path.{sym, _∙_}
 use lib.ListN.{length}
@@ -9,25 +10,16 @@ use Rattle.wave_terrain_engine.proofs.Blocks.{layer-fits, staged-frames
 use borrow.Author.Needs.{needs}
 use Rattle.wave_terrain_engine.proofs.frames.render_frames.Statement.{statement}
 use Rattle.wave_terrain_engine.proofs.frames.render_frames.Tie as tie
-use Rattle.wave_terrain_engine.proofs.frames.render_frames.Reads as reads
-use Rattle.wave_terrain_engine.proofs.frames.render_frames.Lts as lts
-use Rattle.wave_terrain_engine.proofs.frames.finish.Reads as finish-reads
-use Rattle.wave_terrain_engine.proofs.frames.heights.Reads as heights-reads
-use Rattle.wave_terrain_engine.proofs.frames.shift.Reads as shift-reads
-use Rattle.wave_terrain_engine.proofs.frames.sums.Reads as sums-reads
 
--- src/frames.rt:201:9
 shift-requires : tie.Need-shift-requires
 shift-requires c κs =
     let entry = c .before .before .before .before .before .before .before .before .before .before .before .before .before in
     let room = entry .pre .1 .1 in
     (omega (arith, entry .pre .1 .0 .0, top-most (entry .args .map .now)), (room .run-room, (room .xs-room, (room .layers-room, room .fractions-room))))
 
--- src/frames.rt:202:24
 mul-heights : tie.Need-mul-heights
 mul-heights c = record { fits = omega (arith, c .before .before .before .before .before .before .before .before .before .before .before .before .before .before .before .before .before .before .before .before .good) }
 
--- src/frames.rt:202:9
 heights-requires : tie.Need-heights-requires
 heights-requires c κs =
     let entry = c .before .before .before .before .before .before .before .before .before .before .before .before .before .before .before .before .before .before .before .before .before .before .before in
@@ -40,11 +32,9 @@ heights-requires c κs =
       ),
     )
 
--- src/frames.rt:203:26
 mul-heights-2 : tie.Need-mul-heights-2
 mul-heights-2 c = record { fits = omega (arith, c .before .before .before .before .before .before .before .before .before .before .before .before .before .before .before .before .before .before .before .before .before .before .before .before .before .before .good) }
 
--- src/frames.rt:203:9
 heights-requires-2 : tie.Need-heights-requires-2
 heights-requires-2 c κs =
     let entry = c .before .before .before .before .before .before .before .before .before .before .before .before .before .before .before .before .before .before .before .before .before .before .before .before .before .before .before .before .before in
@@ -57,47 +47,36 @@ heights-requires-2 c κs =
       ),
     )
 
--- src/frames.rt:204:5
 sums-requires : tie.Need-sums-requires
 sums-requires c κs = omega (arith, c .before .before .before .before .before .before .before .before .before .before .before .before .before .before .before .before .before .before .before .before .before .before .before .before .before .before .before .before .before .before .before .before .before .before .before .before .before .pre .1 .1, c .before .before .before .before .before .before .before .before .before .before .before .before .before .before .before .before .before .before .before .before .before .before .before .shift .kept, c .before .before .before .before .before .before .before .before .before .before .before .before .before .heights .kept, c .before .before .before .before .before .before .before .heights2 .kept)
 
--- src/frames.rt:205:5
 finish-requires : tie.Need-finish-requires
 finish-requires c κs = omega (arith, c .before .before .before .before .before .before .before .before .before .before .before .before .before .before .before .before .before .before .before .before .before .before .before .before .before .before .before .before .before .before .before .before .before .before .before .before .before .before .before .before .before .before .before .before .pre .1, c .before .before .before .before .before .before .before .before .before .before .before .before .before .before .before .before .before .before .before .before .before .before .before .before .before .before .before .before .before .before .shift .kept, c .before .before .before .before .before .before .sums .kept)
 
--- src/frames.rt:208:15
 add-t26 : tie.Need-add-t26
 add-t26 c = record { fits = omega (arith, c .before .before .before .before .before .before .before .before .before .before .before .before .before .before .before .before .before .before .before .before .before .before .before .heights .ensures .0, c .before .before .before .before .before .before .before .before .before .before .before .before .before .before .before .before .before .heights2 .ensures .0, c .before .before .before .before .before .before .before .before .before .before .before .before .before .before .before .before .before .before .before .before .before .before .before .before .before .before .before .before .before .before .before .before .before .before .before .before .before .before .before .before .before .before .before .before .before .before .before .good) }
 
--- src/frames.rt:179:1
 same-length : tie.Need-same-length
 same-length c = search needs
 
--- src/frames.rt:179:1
 same-length-2 : tie.Need-same-length-2
 same-length-2 c = omega (arith, c .before .before .before .before .before .before .before .before .before .before .before .before .before .before .before .before .before .before .before .before .before .before .before .before .before .before .before .before .before .before .before .before .before .shift .kept, c .before .before .before .before .before .before .before .before .before .sums .kept)
 
--- src/frames.rt:179:1
 same-length-3 : tie.Need-same-length-3
 same-length-3 c = search needs
 
--- src/frames.rt:179:1
 same-length-4 : tie.Need-same-length-4
 same-length-4 c = omega (arith, c .before .before .before .before .before .before .before .before .before .before .before .before .before .before .before .before .before .before .before .before .before .before .before .before .before .before .before .before .before .before .before .before .before .shift .kept)
 
--- src/frames.rt:179:1
 same-length-5 : tie.Need-same-length-5
 same-length-5 c = omega (arith, c .before .before .before .before .before .before .before .before .before .before .before .before .before .before .before .before .before .before .before .before .before .before .before .before .before .before .before .before .before .before .before .before .before .shift .kept)
 
--- src/frames.rt:179:1
 same-length-6 : tie.Need-same-length-6
 same-length-6 c = search needs
 
--- src/frames.rt:179:1
 same-length-7 : tie.Need-same-length-7
 same-length-7 c = search needs
 
--- src/frames.rt:179:1
 returns : tie.Need-returns
 returns c =
     let entry = c .before .before .before .before .before .before .before .before .before .before .before .before .before .before .before .before .before .before .before .before .before .before .before .before .before .before .before .before .before .before .before .before .before .before .before .before .before .before .before .before .before .before .before .before .before .before .before in

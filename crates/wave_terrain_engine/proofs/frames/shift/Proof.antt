@@ -1,3 +1,4 @@
+-- The loop that shifts the path and takes the layers, by the law of `Shifts`.
 use borrow.Author.Needs.{needs}
 use native.Mathlib.Omega.{arith}
 use Prim.Native.Nat.{ℕ, _-_}
@@ -9,11 +10,6 @@ use Rattle.wave_terrain_engine.specs.Block.{interpolatorsNext}
 use Rattle.wave_terrain_engine.proofs.Shifts.{Shifting, shifting-none, shifting-more}
 use Rattle.wave_terrain_engine.proofs.frames.shift.Statement.{statement}
 use Rattle.wave_terrain_engine.proofs.frames.shift.Tie as tie
-use Rattle.wave_terrain_engine.proofs.frames.shift.Reads as reads
-use Rattle.wave_terrain_engine.proofs.frames.shift.Lts as lts
-use Rattle.wave_terrain_engine.proofs.frames.Interpolators.next.Reads as next-reads
-use Rattle.wave_terrain_engine.proofs.frames.shifted_x.Reads as shifted-x-reads
-use Rattle.words.proofs.held_part.Reads as held-part-reads
 
 abbrev Inv-loop : tie.InvT-loop
 Inv-loop n top run xs₀ layers₀ fractions₀ s₀ i₀ xs layers fractions s i = Shifting top run s₀ n xs₀ layers₀ fractions₀ xs layers fractions s i
@@ -21,99 +17,75 @@ Inv-loop n top run xs₀ layers₀ fractions₀ s₀ i₀ xs layers fractions s 
 abbrev μ-loop : tie.MeasureT-loop
 μ-loop n top run xs₀ layers₀ fractions₀ s₀ i₀ xs layers fractions s i = n - i
 
--- src/frames.rt:65:5
 loop-holds : tie.Need-loop-holds Inv-loop μ-loop
 loop-holds c = shifting-none _ _ _ _ _ _ _
 
--- src/frames.rt:66:9
 next-requires : tie.Need-next-requires Inv-loop μ-loop
 next-requires c κs = search needs
 
--- src/frames.rt:68:18
 mul-ij : tie.Need-mul-ij Inv-loop μ-loop
 mul-ij c = search needs
 
--- src/frames.rt:69:28
 mul-shifted-x : tie.Need-mul-shifted-x Inv-loop μ-loop
 mul-shifted-x c = search needs
 
--- src/frames.rt:69:28
 shared-slice-read-shifted-x : tie.Need-shared-slice-read-shifted-x Inv-loop μ-loop
 shared-slice-read-shifted-x c = search needs
 
--- src/frames.rt:69:18
 shifted-x-requires : tie.Need-shifted-x-requires Inv-loop μ-loop
 shifted-x-requires c κs = search needs
 
--- src/frames.rt:69:9
 mul-xs : tie.Need-mul-xs Inv-loop μ-loop
 mul-xs c = search needs
 
--- src/frames.rt:69:9
 slice-write-xs : tie.Need-slice-write-xs Inv-loop μ-loop
 slice-write-xs c = search needs
 
--- src/frames.rt:70:36
 add-shifted-x : tie.Need-add-shifted-x Inv-loop μ-loop
 add-shifted-x c = search needs
 
--- src/frames.rt:70:32
 mul-shifted-x-2 : tie.Need-mul-shifted-x-2 Inv-loop μ-loop
 mul-shifted-x-2 c = search needs
 
--- src/frames.rt:70:32
 shared-slice-read-shifted-x-2 : tie.Need-shared-slice-read-shifted-x-2 Inv-loop μ-loop
 shared-slice-read-shifted-x-2 c = search needs
 
--- src/frames.rt:70:22
 shifted-x-requires-2 : tie.Need-shifted-x-requires-2 Inv-loop μ-loop
 shifted-x-requires-2 c κs = search needs
 
--- src/frames.rt:70:12
 add-xs : tie.Need-add-xs Inv-loop μ-loop
 add-xs c = search needs
 
--- src/frames.rt:70:9
 mul-xs-2 : tie.Need-mul-xs-2 Inv-loop μ-loop
 mul-xs-2 c = search needs
 
--- src/frames.rt:70:9
 slice-write-xs-2 : tie.Need-slice-write-xs-2 Inv-loop μ-loop
 slice-write-xs-2 c = simp length-set (omega (arith, c .before .before .before .before .before .before .loop .inv .xs-are .long, c .before .before .before .before .before .before .before .before .before .before .before .pre))
 
--- src/frames.rt:71:13
 held-part-requires : tie.Need-held-part-requires Inv-loop μ-loop
 held-part-requires c κs = search needs
 
--- src/frames.rt:72:21
 cast-layers : tie.Need-cast-layers Inv-loop μ-loop
 cast-layers c = record { fits = omega (arith, part-most _ _ _ (c .before .held-part .ensures), c .before .before .before .before .before .before .before .before .before .before .before .before .before .pre) }
 
--- src/frames.rt:72:9
 mul-layers : tie.Need-mul-layers Inv-loop μ-loop
 mul-layers c = search needs
 
--- src/frames.rt:72:9
 slice-write-layers : tie.Need-slice-write-layers Inv-loop μ-loop
 slice-write-layers c = search needs
 
--- src/frames.rt:73:9
 mul-fractions : tie.Need-mul-fractions Inv-loop μ-loop
 mul-fractions c = search needs
 
--- src/frames.rt:73:9
 slice-write-fractions : tie.Need-slice-write-fractions Inv-loop μ-loop
 slice-write-fractions c = search needs
 
--- src/frames.rt:74:9
 add-i : tie.Need-add-i Inv-loop μ-loop
 add-i c = search needs
 
--- src/frames.rt:65:5
 loop-less : tie.Need-loop-less Inv-loop μ-loop
 loop-less c = search needs
 
--- src/frames.rt:65:5
 loop-again : tie.Need-loop-again Inv-loop μ-loop
 loop-again c =
     let pre = c .before .before .before .before .before .before .before .before .before .before .before .before .before .pre in
@@ -128,19 +100,15 @@ loop-again c =
     (pre .1 .1 .1 .1)
     (c .before .before .before .before .before .before .before .before .loop .inv)
 
--- src/frames.rt:47:1
 same-length : tie.Need-same-length Inv-loop μ-loop
 same-length c = search needs
 
--- src/frames.rt:47:1
 same-length-2 : tie.Need-same-length-2 Inv-loop μ-loop
 same-length-2 c = search needs
 
--- src/frames.rt:47:1
 same-length-3 : tie.Need-same-length-3 Inv-loop μ-loop
 same-length-3 c = search needs
 
--- src/frames.rt:47:1
 returns : tie.Need-returns Inv-loop μ-loop
 returns c =
     let inv = c .before .loop .inv in

@@ -1,3 +1,4 @@
+-- The loop over the sums of two oversamples, by the law of lent runs that a loop fills.
 use borrow.Author.Needs.{needs}
 use native.Mathlib.Omega.{arith}
 use Prim.Native.Nat.{_-_, _≤_, zero-le}
@@ -8,12 +9,6 @@ use Rattle.oscillator.proofs.Runs.{Filling, filling-none, filling-more}
 use Rattle.wave_terrain_engine.specs.Stages.{stagePhase, stageOut}
 use Rattle.wave_terrain_engine.proofs.frames.sums.Statement.{statement}
 use Rattle.wave_terrain_engine.proofs.frames.sums.Tie as tie
-use Rattle.wave_terrain_engine.proofs.frames.sums.Reads as reads
-use Rattle.wave_terrain_engine.proofs.frames.sums.Lts as lts
-use Rattle.wave_terrain_engine.proofs.frames.aux_phase.Reads as aux-phase-reads
-use Rattle.wave_terrain_engine.proofs.frames.between_at.Reads as between-at-reads
-use Rattle.wave_terrain_engine.proofs.frames.out_sample.Reads as out-sample-reads
-use Rattle.words.proofs.to_word.Reads as to-word-reads
 
 abbrev Inv-loop : tie.InvT-loop
 Inv-loop ys fractions z0s z1s phases₀ out₀ i₀ phases out i =
@@ -23,99 +18,75 @@ Inv-loop ys fractions z0s z1s phases₀ out₀ i₀ phases out i =
 abbrev μ-loop : tie.MeasureT-loop
 μ-loop ys fractions z0s z1s phases₀ out₀ i₀ phases out i = length out₀ - i
 
--- src/frames.rt:149:5
 loop-holds : tie.Need-loop-holds Inv-loop μ-loop
 loop-holds c = (zero-le, (filling-none _ _ _, filling-none _ _ _))
 
--- src/frames.rt:150:18
 mul-ij : tie.Need-mul-ij Inv-loop μ-loop
 mul-ij c = search needs
 
--- src/frames.rt:151:42
 mul-between-at : tie.Need-mul-between-at Inv-loop μ-loop
 mul-between-at c = search needs
 
--- src/frames.rt:151:42
 shared-slice-read-between-at : tie.Need-shared-slice-read-between-at Inv-loop μ-loop
 shared-slice-read-between-at c = search needs
 
--- src/frames.rt:151:13
 between-at-requires : tie.Need-between-at-requires Inv-loop μ-loop
 between-at-requires c κs = search needs
 
--- src/frames.rt:152:40
 add-between-at : tie.Need-add-between-at Inv-loop μ-loop
 add-between-at c = search needs
 
--- src/frames.rt:152:48
 mul-between-at-2 : tie.Need-mul-between-at-2 Inv-loop μ-loop
 mul-between-at-2 c = search needs
 
--- src/frames.rt:152:48
 shared-slice-read-between-at-2 : tie.Need-shared-slice-read-between-at-2 Inv-loop μ-loop
 shared-slice-read-between-at-2 c = search needs
 
--- src/frames.rt:152:13
 between-at-requires-2 : tie.Need-between-at-requires-2 Inv-loop μ-loop
 between-at-requires-2 c κs = search needs
 
--- src/frames.rt:153:31
 mul-aux-phase : tie.Need-mul-aux-phase Inv-loop μ-loop
 mul-aux-phase c = search needs
 
--- src/frames.rt:153:31
 shared-slice-read-aux-phase : tie.Need-shared-slice-read-aux-phase Inv-loop μ-loop
 shared-slice-read-aux-phase c = search needs
 
--- src/frames.rt:153:45
 add-aux-phase : tie.Need-add-aux-phase Inv-loop μ-loop
 add-aux-phase c = search needs
 
--- src/frames.rt:153:42
 mul-aux-phase-2 : tie.Need-mul-aux-phase-2 Inv-loop μ-loop
 mul-aux-phase-2 c = search needs
 
--- src/frames.rt:153:42
 shared-slice-read-aux-phase-2 : tie.Need-shared-slice-read-aux-phase-2 Inv-loop μ-loop
 shared-slice-read-aux-phase-2 c = search needs
 
--- src/frames.rt:153:21
 aux-phase-requires : tie.Need-aux-phase-requires Inv-loop μ-loop
 aux-phase-requires c κs = search needs
 
--- src/frames.rt:153:9
 mul-phases : tie.Need-mul-phases Inv-loop μ-loop
 mul-phases c = search needs
 
--- src/frames.rt:153:9
 slice-write-phases : tie.Need-slice-write-phases Inv-loop μ-loop
 slice-write-phases c = search needs
 
--- src/frames.rt:154:33
 out-sample-requires : tie.Need-out-sample-requires Inv-loop μ-loop
 out-sample-requires c κs = search needs
 
--- src/frames.rt:154:18
 to-word-requires : tie.Need-to-word-requires Inv-loop μ-loop
 to-word-requires c κs = search needs
 
--- src/frames.rt:154:9
 mul-out : tie.Need-mul-out Inv-loop μ-loop
 mul-out c = search needs
 
--- src/frames.rt:154:9
 slice-write-out : tie.Need-slice-write-out Inv-loop μ-loop
 slice-write-out c = search needs
 
--- src/frames.rt:155:9
 add-i : tie.Need-add-i Inv-loop μ-loop
 add-i c = search needs
 
--- src/frames.rt:149:5
 loop-less : tie.Need-loop-less Inv-loop μ-loop
 loop-less c = search needs
 
--- src/frames.rt:149:5
 loop-again : tie.Need-loop-again Inv-loop μ-loop
 loop-again c =
     let inv = c .before .before .before .before .before .before .before .before .before .before .loop .inv in
@@ -128,15 +99,12 @@ loop-again c =
       ),
     )
 
--- src/frames.rt:135:1
 same-length : tie.Need-same-length Inv-loop μ-loop
 same-length c = search needs
 
--- src/frames.rt:135:1
 same-length-2 : tie.Need-same-length-2 Inv-loop μ-loop
 same-length-2 c = search needs
 
--- src/frames.rt:135:1
 returns : tie.Need-returns Inv-loop μ-loop
 returns c =
     let inv = c .before .loop .inv in

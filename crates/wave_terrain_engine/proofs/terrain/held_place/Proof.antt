@@ -2,14 +2,10 @@ use mathlib.Core.Path.{sym}
 use Rattle.wave_terrain_engine.proofs.Places.{place-past, place-within}
 use Rattle.wave_terrain_engine.proofs.terrain.held_place.Statement.{statement}
 use Rattle.wave_terrain_engine.proofs.terrain.held_place.Tie as tie
-use Rattle.wave_terrain_engine.proofs.terrain.held_place.Reads as reads
-use Rattle.wave_terrain_engine.proofs.terrain.held_place.Lts as lts
 
--- src/terrain.rt:113:1
 returns : tie.Need-returns
 returns c = sym (place-past _ _ (c .if1 .taken))
 
--- src/terrain.rt:113:1
 returns-2 : tie.Need-returns-2
 returns-2 c = sym (place-within _ _ (c .if1 .left))
 

@@ -4,24 +4,16 @@ use Rattle.wave_terrain_engine.specs.Heights.{terrain4}
 use borrow.Author.Needs.{needs}
 use Rattle.wave_terrain_engine.proofs.terrain.terrain_4.Statement.{statement}
 use Rattle.wave_terrain_engine.proofs.terrain.terrain_4.Tie as tie
-use Rattle.wave_terrain_engine.proofs.terrain.terrain_4.Reads as reads
-use Rattle.wave_terrain_engine.proofs.terrain.terrain_4.Lts as lts
-use Rattle.oscillator.proofs.sine_oscillator.sine.Reads as sine-reads
-use Rattle.utils.proofs.abs.Reads as abs-reads
 
--- src/terrain.rt:87:26
 abs-requires : tie.Need-abs-requires
 abs-requires c κs = search needs
 
--- src/terrain.rt:88:32
 abs-requires-2 : tie.Need-abs-requires-2
 abs-requires-2 c κs = search needs
 
--- src/terrain.rt:85:5
 sine-requires : tie.Need-sine-requires
 sine-requires c κs = search needs
 
--- src/terrain.rt:82:1
 returns : tie.Need-returns
 unfolding terrain4 ofBits decimal
 returns c = rw (c .sine .ensures, c .before .abs2 .ensures, c .before .before .abs .ensures)

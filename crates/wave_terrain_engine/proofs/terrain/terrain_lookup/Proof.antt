@@ -1,3 +1,4 @@
+-- A reading of the map: its place is that of the true whole parts, by the law of `Places`, and four entries stand there.
 use lib.Ieee.{ofBits}
 use Rattle.words.specs.Binary32.{decimal}
 use Rattle.wave_terrain_engine.specs.Heights.{terrainLookup}
@@ -6,45 +7,31 @@ use Rattle.wave_terrain_engine.proofs.Places.{place-most, map-place-of,
 use borrow.Author.Needs.{needs}
 use Rattle.wave_terrain_engine.proofs.terrain.terrain_lookup.Statement.{statement}
 use Rattle.wave_terrain_engine.proofs.terrain.terrain_lookup.Tie as tie
-use Rattle.wave_terrain_engine.proofs.terrain.terrain_lookup.Reads as reads
-use Rattle.wave_terrain_engine.proofs.terrain.terrain_lookup.Lts as lts
-use Rattle.oscillator.proofs.wavetable_oscillator.interpolate_wave_u8.Reads as interpolate-wave-u8-reads
-use Rattle.wave_terrain_engine.proofs.terrain.coordinate_at.Reads as coordinate-at-reads
-use Rattle.wave_terrain_engine.proofs.terrain.held_place.Reads as held-place-reads
 
--- src/terrain.rt:131:9
 coordinate-at-requires : tie.Need-coordinate-at-requires
 coordinate-at-requires c κs = search needs
 
--- src/terrain.rt:132:9
 coordinate-at-requires-2 : tie.Need-coordinate-at-requires-2
 coordinate-at-requires-2 c κs = search needs
 
--- src/terrain.rt:133:64
 mul-held-place : tie.Need-mul-held-place
 mul-held-place c = search needs
 
--- src/terrain.rt:133:64
 add-held-place : tie.Need-add-held-place
 add-held-place c = search needs
 
--- src/terrain.rt:133:9
 held-place-requires : tie.Need-held-place-requires
 held-place-requires c κs = search needs
 
--- src/terrain.rt:134:9
 interpolate-wave-u8-requires : tie.Need-interpolate-wave-u8-requires
 interpolate-wave-u8-requires c κs = omega (arith, place-most _ _ _ (c .held-place .ensures))
 
--- src/terrain.rt:135:40
 add-interpolate-wave-u8 : tie.Need-add-interpolate-wave-u8
 add-interpolate-wave-u8 c = record { fits = omega (arith, place-most _ _ _ (c .before .before .held-place .ensures)) }
 
--- src/terrain.rt:135:9
 interpolate-wave-u8-requires-2 : tie.Need-interpolate-wave-u8-requires-2
 interpolate-wave-u8-requires-2 c κs = omega (arith, place-most _ _ _ (c .before .before .held-place .ensures))
 
--- src/terrain.rt:127:1
 returns : tie.Need-returns
 unfolding terrainLookup ofBits decimal
 returns c =

@@ -1,3 +1,4 @@
+-- A reading of the bank: its place is that of the true whole parts, by the law of `Places`, and six entries stand there.
 use lib.Ieee.{ofBits}
 use Rattle.words.specs.Binary32.{decimal}
 use Rattle.wave_terrain_engine.specs.Heights.{terrainLookupWt}
@@ -6,57 +7,40 @@ use Rattle.wave_terrain_engine.proofs.Places.{place-most, bank-place-of
 use borrow.Author.Needs.{needs}
 use Rattle.wave_terrain_engine.proofs.terrain.terrain_lookup_wt.Statement.{statement}
 use Rattle.wave_terrain_engine.proofs.terrain.terrain_lookup_wt.Tie as tie
-use Rattle.wave_terrain_engine.proofs.terrain.terrain_lookup_wt.Reads as reads
-use Rattle.wave_terrain_engine.proofs.terrain.terrain_lookup_wt.Lts as lts
-use Rattle.oscillator.proofs.wavetable_oscillator.interpolate_integrated_wave.Reads as interpolate-integrated-wave-reads
-use Rattle.wave_terrain_engine.proofs.terrain.coordinate_at.Reads as coordinate-at-reads
-use Rattle.wave_terrain_engine.proofs.terrain.held_place.Reads as held-place-reads
 
--- src/terrain.rt:148:9
 coordinate-at-requires : tie.Need-coordinate-at-requires
 coordinate-at-requires c κs = search needs
 
--- src/terrain.rt:149:9
 coordinate-at-requires-2 : tie.Need-coordinate-at-requires-2
 coordinate-at-requires-2 c κs = search needs
 
--- src/terrain.rt:152:9
 mul-held-place : tie.Need-mul-held-place
 mul-held-place c = search needs
 
--- src/terrain.rt:152:9
 mul-held-place-2 : tie.Need-mul-held-place-2
 mul-held-place-2 c = search needs
 
--- src/terrain.rt:152:48
 mul-held-place-3 : tie.Need-mul-held-place-3
 mul-held-place-3 c = search needs
 
--- src/terrain.rt:152:9
 add-held-place : tie.Need-add-held-place
 add-held-place c = search needs
 
--- src/terrain.rt:152:9
 add-held-place-2 : tie.Need-add-held-place-2
 add-held-place-2 c = search needs
 
--- src/terrain.rt:150:9
 held-place-requires : tie.Need-held-place-requires
 held-place-requires c κs = search needs
 
--- src/terrain.rt:154:9
 interpolate-integrated-wave-requires : tie.Need-interpolate-integrated-wave-requires
 interpolate-integrated-wave-requires c κs = omega (arith, place-most _ _ _ (c .held-place .ensures))
 
--- src/terrain.rt:155:49
 add-interpolate-integrated-wave : tie.Need-add-interpolate-integrated-wave
 add-interpolate-integrated-wave c = record { fits = omega (arith, place-most _ _ _ (c .before .before .held-place .ensures)) }
 
--- src/terrain.rt:155:9
 interpolate-integrated-wave-requires-2 : tie.Need-interpolate-integrated-wave-requires-2
 interpolate-integrated-wave-requires-2 c κs = omega (arith, place-most _ _ _ (c .before .before .held-place .ensures))
 
--- src/terrain.rt:144:1
 returns : tie.Need-returns
 unfolding terrainLookupWt ofBits decimal
 returns c =

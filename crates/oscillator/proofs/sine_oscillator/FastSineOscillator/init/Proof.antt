@@ -3,10 +3,7 @@ use lib.Ieee.{ofBits}
 use Rattle.words.specs.Binary32.{decimal}
 use Rattle.oscillator.proofs.sine_oscillator.FastSineOscillator.init.Statement.{statement}
 use Rattle.oscillator.proofs.sine_oscillator.FastSineOscillator.init.Tie as tie
-use Rattle.oscillator.proofs.sine_oscillator.FastSineOscillator.init.Reads as reads
-use Rattle.oscillator.proofs.sine_oscillator.FastSineOscillator.init.Lts as lts
 
--- src/sine_oscillator.rt:29:5
 returns : tie.Need-returns
 unfolding ofBits decimal
 returns c = refl

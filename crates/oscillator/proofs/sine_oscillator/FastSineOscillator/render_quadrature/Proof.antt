@@ -1,3 +1,4 @@
+-- The quadrature from its start, by what its start and its loop ensure.
 use mathlib.Core.Path.{ap, _∙_}
 use Rattle.utils.specs.Frames.{eachOf}
 use Rattle.oscillator.specs.Path.{
@@ -11,20 +12,13 @@ use Rattle.oscillator.proofs.sine_oscillator.FastSineOscillator.render_
   statement,
 }
 use Rattle.oscillator.proofs.sine_oscillator.FastSineOscillator.render_quadrature.Tie as tie
-use Rattle.oscillator.proofs.sine_oscillator.FastSineOscillator.render_quadrature.Reads as reads
-use Rattle.oscillator.proofs.sine_oscillator.FastSineOscillator.render_quadrature.Lts as lts
-use Rattle.oscillator.proofs.sine_oscillator.Quadrature.fill.Reads as fill-reads
-use Rattle.oscillator.proofs.sine_oscillator.Quadrature.new.Reads as new-reads
 
--- src/sine_oscillator.rt:54:17
 new-requires : tie.Need-new-requires
 new-requires c κs = search needs
 
--- src/sine_oscillator.rt:54:13
 fill-requires : tie.Need-fill-requires
 fill-requires c κs = search needs
 
--- src/sine_oscillator.rt:41:5
 returns : tie.Need-returns
 unfolding pathAfter
 returns c =

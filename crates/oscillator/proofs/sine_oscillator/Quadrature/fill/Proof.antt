@@ -11,9 +11,6 @@ use Rattle.oscillator.specs.Path.{quadratureNext, quadratureOut, quadrat
 use Rattle.oscillator.proofs.Runs.{after-more, Filling, filling-none, filling-more, filled-run}
 use Rattle.oscillator.proofs.sine_oscillator.Quadrature.fill.Statement.{statement}
 use Rattle.oscillator.proofs.sine_oscillator.Quadrature.fill.Tie as tie
-use Rattle.oscillator.proofs.sine_oscillator.Quadrature.fill.Reads as reads
-use Rattle.oscillator.proofs.sine_oscillator.Quadrature.fill.Lts as lts
-use Rattle.oscillator.proofs.sine_oscillator.Quadrature.next.Reads as next-reads
 
 abbrev Inv-loop : tie.InvT-loop
 Inv-loop n out₀ out-2₀ q₀ i₀ out out-2 q i =
@@ -25,40 +22,31 @@ Inv-loop n out₀ out-2₀ q₀ i₀ out out-2 q i =
 abbrev μ-loop : tie.MeasureT-loop
 μ-loop n out₀ out-2₀ q₀ i₀ out out-2 q i = n - i
 
--- src/sine_oscillator.rt:111:9
 loop-holds : tie.Need-loop-holds Inv-loop μ-loop
 unfolding stateAfter
 loop-holds c = (search needs, (refl, (filling-none _ _ _, filling-none _ _ _)))
 
--- src/sine_oscillator.rt:112:13
 next-requires : tie.Need-next-requires Inv-loop μ-loop
 next-requires c κs = search needs
 
--- src/sine_oscillator.rt:114:13
 mul-out : tie.Need-mul-out Inv-loop μ-loop
 mul-out c = search needs
 
--- src/sine_oscillator.rt:114:13
 slice-write-out : tie.Need-slice-write-out Inv-loop μ-loop
 slice-write-out c = search needs
 
--- src/sine_oscillator.rt:115:13
 mul-out-2 : tie.Need-mul-out-2 Inv-loop μ-loop
 mul-out-2 c = search needs
 
--- src/sine_oscillator.rt:115:13
 slice-write-out-2 : tie.Need-slice-write-out-2 Inv-loop μ-loop
 slice-write-out-2 c = search needs
 
--- src/sine_oscillator.rt:116:13
 add-i : tie.Need-add-i Inv-loop μ-loop
 add-i c = search needs
 
--- src/sine_oscillator.rt:111:9
 loop-less : tie.Need-loop-less Inv-loop μ-loop
 loop-less c = search needs
 
--- src/sine_oscillator.rt:111:9
 loop-again : tie.Need-loop-again Inv-loop μ-loop
 loop-again c =
     let at-loop = c .before .before .before .before in
@@ -74,15 +62,12 @@ loop-again c =
       ),
     )
 
--- src/sine_oscillator.rt:103:5
 same-length : tie.Need-same-length Inv-loop μ-loop
 same-length c = search needs
 
--- src/sine_oscillator.rt:103:5
 same-length-2 : tie.Need-same-length-2 Inv-loop μ-loop
 same-length-2 c = search needs
 
--- src/sine_oscillator.rt:103:5
 returns : tie.Need-returns Inv-loop μ-loop
 returns c =
     let inv = c .before .loop .inv in
