@@ -1,49 +1,21 @@
 -- A block in stages is the block frame by frame: at each frame, what a stage leaves is what the definition has from the state before that frame.
 use mathlib.Core.Path.{_≡_, refl, sym, ap, _∙_, subst}
 use mathlib.Core.List.{List}
-use Prim.Native.Nat.{ℕ, zero, suc, _+_, _*_, _≤_, _<_}
+use Prim.Native.Nat.{ℕ, zero, suc, _+_, _≤_, _<_}
 use native.Mathlib.Omega.{arith}
 use lib.IntN.{ℤ}
 use lib.ListN.{length, getD}
 use lib.Ieee.{Float, nan, binary32, toBits}
 use Rattle.utils.specs.Frames.{stateAfter, eachOf, sumOf}
-use Rattle.utils.proofs.Frames.{
-  after-suc,
-  each-length,
-  each-at,
-  sum-most,
-  part-after,
-  Filled,
-  filled-all,
-}
+use Rattle.utils.proofs.Frames.{after-suc, each-length, each-at, sum-most, part-after, Filled, filled-all}
 use Rattle.oscillator.specs.declared.wavetable_oscillator.Differentiator.{Differentiator}
 use Rattle.utils.specs.declared.engine.EngineParameters.{EngineParameters}
 use Rattle.wavetable_engine.specs.declared.WavetableEngine.{WavetableEngine}
 use Rattle.wavetable_engine.specs.declared.SetUp.{SetUp}
 use Rattle.wavetable_engine.specs.declared.frames.Positions.{Positions}
-use Rattle.wavetable_engine.specs.declared.frames.Parts.{Parts}
 use Rattle.wavetable_engine.specs.declared.frames.Walked.{Walked}
-use Rattle.wavetable_engine.specs.Wavetable.{
-  moved,
-  partsOf,
-  reading,
-  lofi,
-  Frame,
-  framed,
-  setUp,
-  rendered,
-}
-use Rattle.wavetable_engine.specs.Stages.{
-  partsAt,
-  WalkedBy,
-  KeysFit,
-  CornersRead,
-  mixAt,
-  Differentiating,
-  differentiate,
-  differentiating,
-  sampleOf,
-}
+use Rattle.wavetable_engine.specs.Wavetable.{moved, partsOf, reading, lofi, Frame, framed, setUp, rendered}
+use Rattle.wavetable_engine.specs.Stages.{WalkedBy, KeysFit, CornersRead, mixAt, Differentiating, differentiate, differentiating, sampleOf}
 use Rattle.wavetable_engine.proofs.Keys.{key-fits, corners-by-key}
 use Rattle.wavetable_engine.proofs.Walking.{heldAt, held-most, parts-fit}
 
@@ -68,7 +40,7 @@ module _ (bank : List ℤ) (lp : Float) (start : Frame) where
   at j = stateAfter next j start
 
   abbrev begun : Frame → Differentiating
-  begun f = record { «diff_out» = f .«diff_out»; f0 = f .positions .f0 }
+  begun f = record { «diff_out» = f .«diff_out»; f0 = f .positions .«f0_modulation» }
 
   -- what frame j reads
   abbrev readingAt : ℕ → Float
@@ -145,8 +117,8 @@ pub record Staged (bank : List ℤ) (size : ℕ) (m : SetUp) (d₀ : Differentia
   pub walked : WalkedBy (m .«lp_coefficient») (m .start) size r keys xs ys zs phases
   pub corners-are : CornersRead bank keys phases corners size
   pub mixes-are : Filled (mixAt xs ys zs corners) nan mixes size
-  pub diff-is : d ≡ differentiating mixes size (record { «diff_out» = d₀; f0 = m .start .f0 }) .«diff_out»
-  pub samples-are : Filled (λ j. sampleOf (getD mixes j nan) (differentiating mixes j (record { «diff_out» = d₀; f0 = m .start .f0 }))) nan samples size
+  pub diff-is : d ≡ differentiating mixes size (record { «diff_out» = d₀; f0 = m .start .«f0_modulation» }) .«diff_out»
+  pub samples-are : Filled (λ j. sampleOf (getD mixes j nan) (differentiating mixes j (record { «diff_out» = d₀; f0 = m .start .«f0_modulation» }))) nan samples size
   pub out-are : Filled (λ j. toBits binary32 (getD samples j nan)) 0 out size
   pub aux-are : Filled (λ j. toBits binary32 (lofi (getD samples j nan))) 0 aux size
   pub out-long : length out ≡ size
@@ -202,10 +174,10 @@ module _ (bank : List ℤ) (high low : List Float) (size : ℕ) (parameters : En
       «x_lp» = r .end .«x_lp»;
       «y_lp» = r .end .«y_lp»;
       «z_lp» = r .end .«z_lp»;
-      «previous_x» = r .end .x .value;
-      «previous_y» = r .end .y .value;
-      «previous_z» = r .end .z .value;
-      «previous_f0» = r .end .f0 .value;
+      «previous_x» = r .end .«x_modulation» .value;
+      «previous_y» = r .end .«y_modulation» .value;
+      «previous_z» = r .end .«z_modulation» .value;
+      «previous_f0» = r .end .«f0_modulation» .value;
       «diff_out» = d;
     }) (rendered bank high low size parameters s .state)
     unfolding rendered

@@ -1,23 +1,17 @@
 -- The corner readings from their places in the bank: a wave that is read from its start is the bank read from that place on, and every place leaves room for the phase.
 use mathlib.Core.Path.{_≡_, sym, ap, _∙_, subst}
 use mathlib.Core.List.{List, [], _∷_}
-use Prim.Native.Nat.{ℕ, _+_, _*_, _/_, _%_, _<_}
+use Prim.Native.Nat.{ℕ, _+_, _/_, _%_}
 use native.Mathlib.Nat.{add-assoc}
 use native.Mathlib.Omega.{arith}
-use lib.IntN.{ℤ, pos}
-use lib.ListN.{drop, getD}
+use lib.IntN.{ℤ}
+use lib.ListN.{drop}
 use lib.Seq.{getD-drop}
 use lib.Ieee.{Float}
-use Rattle.oscillator.specs.Readings.{interpolateWaveHermite, floatOfI16}
+use Rattle.oscillator.specs.Readings.{interpolateWaveHermite}
 use Rattle.wavetable_engine.specs.declared.readings.Places.{Places}
-use Rattle.wavetable_engine.specs.Wavetable.{wave, readWave, levelAt, cornersAt, foldLevel}
-use Rattle.wavetable_engine.specs.Stages.{
-  placesOfLevel,
-  placesOf,
-  readAt,
-  readLevel,
-  LevelFits,
-}
+use Rattle.wavetable_engine.specs.Wavetable.{readWave, levelAt, cornersAt, foldLevel}
+use Rattle.wavetable_engine.specs.Stages.{placesOfLevel, placesOf, readAt, readLevel, LevelFits}
 use Rattle.wavetable_engine.proofs.Waves.{wave-below}
 
 from-place : (bank : List ℤ) (k p : ℕ) (f : Float) → readAt bank (k + p) f ≡ readAt (drop k bank) p f

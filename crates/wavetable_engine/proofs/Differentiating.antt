@@ -1,17 +1,12 @@
 -- The differentiator's stage goes on: one more sample is stored, and the state is that of one more frame.
-use mathlib.Core.Path.{_≡_, refl, sym, ap, _∙_}
+use mathlib.Core.Path.{_≡_, refl, ap}
 use mathlib.Core.List.{List}
-use Prim.Native.Nat.{ℕ, zero, suc, _+_, _≤_, _<_}
+use Prim.Native.Nat.{ℕ, _+_, _<_}
 use native.Mathlib.Numerals.{add-one}
 use lib.ListN.{length, getD, set}
 use lib.Ieee.{Float, nan}
 use Rattle.utils.proofs.Frames.{Filled, filled-none, filled-more}
-use Rattle.wavetable_engine.specs.Stages.{
-  Differentiating,
-  differentiate,
-  differentiating,
-  sampleOf,
-}
+use Rattle.wavetable_engine.specs.Stages.{Differentiating, differentiate, differentiating, sampleOf}
 
 -- the sample of frame j
 abbrev pub sampleAt : List Float → Differentiating → ℕ → Float

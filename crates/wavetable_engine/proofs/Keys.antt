@@ -2,13 +2,7 @@
 use mathlib.Core.Path.{_≡_, ap, _∙_}
 use Prim.Native.Nat.{ℕ, zero, _+_, _*_, _/_, _%_, _<_}
 use mathlib.Core.List.{List}
-use native.Mathlib.Nat.{
-  zero-add,
-  mod-eq-of-lt,
-  div-eq-of-lt,
-  add-mul-mod-self-right,
-  add-mul-div-right,
-}
+use native.Mathlib.Nat.{zero-add, mod-eq-of-lt, div-eq-of-lt, add-mul-mod-self-right, add-mul-div-right}
 use native.Mathlib.Omega.{arith}
 use lib.IntN.{ℤ}
 use Rattle.wavetable_engine.specs.declared.frames.Parts.{Parts}

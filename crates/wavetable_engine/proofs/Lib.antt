@@ -7,3 +7,5 @@ pub mod Walking
 pub mod Keys
 pub mod Composed
 pub mod Bench
+pub mod Lower
+pub mod Held

@@ -1,23 +1,17 @@
 -- The corners stored to a lent list and loaded again: eight stores in a row are a part of the list put in, so the eight just stored load as they are, and those before them stay.
-use mathlib.Core.Path.{_≡_, refl, sym, ap, _∙_, subst}
+use mathlib.Core.Path.{_≡_, _∙_, subst}
 use mathlib.Core.List.{List, [], _∷_, _++_, append-assoc}
-use Prim.Native.Nat.{ℕ, suc, _+_, _*_, _≤_, _<_, zero-le}
+use Prim.Native.Nat.{ℕ, suc, _+_, _*_, _<_}
 use native.Mathlib.Nat.{not-suc-le-zero}
 use native.Mathlib.Numerals.{add-one}
 use native.Mathlib.Omega.{arith}
-use lib.ListN.{length, getD, set, take, drop, List·getD-append}
-use lib.Seq.{sets, sets-eq, length-take-le, getD-append-seam, getD-append-add, getD-take}
+use lib.ListN.{length, getD, take, drop, List·getD-append}
+use lib.Seq.{sets-eq, length-take-le, getD-append-seam, getD-append-add, getD-take}
 use borrow.Author.Count.{below-more}
 use lib.IntN.{ℤ}
 use lib.Ieee.{Float, nan}
 use Rattle.wavetable_engine.specs.Wavetable.{cornersAt}
-use Rattle.wavetable_engine.specs.Stages.{
-  loaded,
-  stored,
-  corner,
-  cornersOf,
-  CornersRead,
-}
+use Rattle.wavetable_engine.specs.Stages.{loaded, stored, corner, cornersOf, CornersRead}
 
 -- the eight corners in the order of their stores
 abbrev inOrder : List (List (List Float)) → List Float

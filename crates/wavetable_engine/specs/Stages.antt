@@ -4,14 +4,13 @@ use mathlib.Core.Path.{_≡_}
 use mathlib.Core.List.{List, [], _∷_}
 use lib.IntN.{ℤ, pos}
 use lib.ListN.{getD, set}
-use lib.Ieee.{Float, nan, binary32, toBits}
-use Rattle.words.specs.Binary32.{_⊗_}
+use mathlib.Core.Bool.{cond}
+use lib.Ieee.{Float, nan, lt}
+use Rattle.words.specs.Binary32.{_⊕_, _⊖_, _⊗_, decimal}
 use Rattle.utils.specs.Interpolator.{stepped}
 use Rattle.utils.specs.Frames.{stateAfter, sumOf}
 use Rattle.utils.proofs.Frames.{Filled}
-use Rattle.utils.specs.declared.parameter_interpolator.ParameterInterpolator.{
-  ParameterInterpolator,
-}
+use Rattle.utils.specs.declared.parameter_interpolator.ParameterInterpolator.{ParameterInterpolator}
 use Rattle.oscillator.specs.Readings.{interpolateWaveHermite, floatOfI16, differentiated}
 use Rattle.oscillator.specs.declared.wavetable_oscillator.Differentiator.{Differentiator}
 use Rattle.wavetable_engine.specs.declared.frames.Positions.{Positions}
@@ -19,21 +18,7 @@ use Rattle.wavetable_engine.specs.declared.frames.Parts.{Parts}
 use Rattle.wavetable_engine.specs.declared.frames.Walked.{Walked}
 use Rattle.wavetable_engine.specs.declared.readings.Level.{Level}
 use Rattle.wavetable_engine.specs.declared.readings.Places.{Places}
-use Rattle.wavetable_engine.specs.Wavetable.{
-  wave,
-  waveLength,
-  bankLength,
-  foldLevel,
-  moved,
-  partsOf,
-  heldOf,
-  cornersAt,
-  foldX,
-  foldY,
-  foldZ,
-  cutoffOf,
-  gainOf,
-}
+use Rattle.wavetable_engine.specs.Wavetable.{wave, waveLength, bankLength, foldLevel, phaseTop, xTop, yTop, zTop, moved, partsOf, heldOf, cornersAt, foldX, foldY, foldZ, cutoffOf, gainOf}
 
 -- ---- the walk: where each frame reads
 
@@ -43,10 +28,10 @@ keyOf p = p .x .whole + p .y .whole * 8 + p .z .whole * 64 + p .phase .whole * 5
 
 -- The tops' part in that number.
 pub record PartsFit (p : Parts) : Type 0 where
-  pub x-fits : p .x .whole ≤ 7
-  pub y-fits : p .y .whole ≤ 7
-  pub z-fits : p .z .whole ≤ 6
-  pub phase-fits : p .phase .whole ≤ 127
+  pub x-fits : p .x .whole ≤ xTop
+  pub y-fits : p .y .whole ≤ yTop
+  pub z-fits : p .z .whole ≤ zTop
+  pub phase-fits : p .phase .whole ≤ phaseTop
 
 pub record KeyFits (key : ℕ) : Type 0 where
   pub level : key % 512 < 448
@@ -175,3 +160,11 @@ sampleOf reading s = differentiated (s .«diff_out») (cutoffOf (stepped (s .f0)
 unfoldable pub differentiating : List Float → ℕ → Differentiating → Differentiating
 differentiating readings zero s = s
 differentiating readings (suc j) s = differentiate (getD readings j nan) (differentiating readings j s)
+
+-- ---- whole parts
+
+-- Rounded to a whole number by 2 ^ 23 added and taken off again, less 1 where that is above it: the whole part of a float from 0 to below 2 ^ 23.
+unfoldable pub lowerOf : Float → Float
+lowerOf y =
+    let r = y ⊕ decimal 8388608 0 ⊖ decimal 8388608 0 in
+    r ⊖ cond (lt y r) (decimal 1 0) (decimal 0 0)

@@ -8,7 +8,6 @@ use lib.ListN.{getD, drop}
 use lib.Ieee.{Float, nan, binary32, le, neg, toBits}
 use Rattle.words.specs.Binary32.{_⊕_, _⊖_, _⊗_, _⊘_, decimal}
 use Rattle.words.specs.Parts.{wholeFloat, wholeI32Float, partOf}
-use Rattle.words.specs.declared.Part.{Part}
 use Rattle.utils.specs.Utils.{clampOf, minOf, onePole}
 use Rattle.utils.specs.Units.{noteToFrequency}
 use Rattle.utils.specs.Interpolator.{interpolator, stepped}
@@ -89,10 +88,10 @@ setUp high low size parameters s =
             «x_lp» = s .«x_lp»;
             «y_lp» = s .«y_lp»;
             «z_lp» = s .«z_lp»;
-            x = interpolator (s .«previous_x») (quantised x quantization) size;
-            y = interpolator (s .«previous_y») (quantised y quantization) size;
-            z = interpolator (s .«previous_z») (quantised z quantization) size;
-            f0 = interpolator (s .«previous_f0») f0 size;
+            «x_modulation» = interpolator (s .«previous_x») (quantised x quantization) size;
+            «y_modulation» = interpolator (s .«previous_y») (quantised y quantization) size;
+            «z_modulation» = interpolator (s .«previous_z») (quantised z quantization) size;
+            «f0_modulation» = interpolator (s .«previous_f0») f0 size;
           };
     }
 
@@ -106,14 +105,14 @@ advanced phase f0 = cond (le (decimal 1 0) (phase ⊕ f0)) (phase ⊕ f0 ⊖ dec
 unfoldable pub moved : Float → Positions → Positions
 moved lp s =
     record {
-      phase = advanced (s .phase) (stepped (s .f0) .value);
-      «x_lp» = onePole (s .«x_lp») (stepped (s .x) .value) lp;
-      «y_lp» = onePole (s .«y_lp») (stepped (s .y) .value) lp;
-      «z_lp» = onePole (s .«z_lp») (stepped (s .z) .value) lp;
-      x = stepped (s .x);
-      y = stepped (s .y);
-      z = stepped (s .z);
-      f0 = stepped (s .f0);
+      phase = advanced (s .phase) (stepped (s .«f0_modulation») .value);
+      «x_lp» = onePole (s .«x_lp») (stepped (s .«x_modulation») .value) lp;
+      «y_lp» = onePole (s .«y_lp») (stepped (s .«y_modulation») .value) lp;
+      «z_lp» = onePole (s .«z_lp») (stepped (s .«z_modulation») .value) lp;
+      «x_modulation» = stepped (s .«x_modulation»);
+      «y_modulation» = stepped (s .«y_modulation»);
+      «z_modulation» = stepped (s .«z_modulation»);
+      «f0_modulation» = stepped (s .«f0_modulation»);
     }
 
 -- "tops: phase 127, x 7, y 7, z 6".
@@ -200,7 +199,7 @@ pub record Framed : Type 0 where
 unfoldable pub framed : List ℤ → Float → Frame → Framed
 framed bank lp s =
     let positions = moved lp (s .positions) in
-    let f0 = positions .f0 .value in
+    let f0 = positions .«f0_modulation» .value in
     let parts = partsOf positions in
     let d = differentiated (s .«diff_out») (cutoffOf f0) (reading bank parts) in
     let sample = d .sample ⊗ gainOf f0 in
@@ -237,10 +236,10 @@ rendered bank high low size parameters s =
             «x_lp» = end .positions .«x_lp»;
             «y_lp» = end .positions .«y_lp»;
             «z_lp» = end .positions .«z_lp»;
-            «previous_x» = end .positions .x .value;
-            «previous_y» = end .positions .y .value;
-            «previous_z» = end .positions .z .value;
-            «previous_f0» = end .positions .f0 .value;
+            «previous_x» = end .positions .«x_modulation» .value;
+            «previous_y» = end .positions .«y_modulation» .value;
+            «previous_z» = end .positions .«z_modulation» .value;
+            «previous_f0» = end .positions .«f0_modulation» .value;
             «diff_out» = end .«diff_out»;
           };
       held = sumOf (λ f. frame f .next) (λ f. frame f .held) size start;

@@ -16,10 +16,10 @@ pub struct Positions {
     pub x_lp: f32,
     pub y_lp: f32,
     pub z_lp: f32,
-    pub x: ParameterInterpolator,
-    pub y: ParameterInterpolator,
-    pub z: ParameterInterpolator,
-    pub f0: ParameterInterpolator,
+    pub x_modulation: ParameterInterpolator,
+    pub y_modulation: ParameterInterpolator,
+    pub z_modulation: ParameterInterpolator,
+    pub f0_modulation: ParameterInterpolator,
 }
 
 // The positions' parts.
@@ -48,19 +48,19 @@ fn advance(phase: f32, f0: f32) -> f32
 fn next(s: Positions, lp_coefficient: f32) -> Positions
     ensures { λ r. ⌜ r ≡ moved «lp_coefficient» s ⌝ }
 {
-    let f0 = s.f0.next();
-    let x = s.x.next();
-    let y = s.y.next();
-    let z = s.z.next();
+    let f0_modulation = s.f0_modulation.next();
+    let x_modulation = s.x_modulation.next();
+    let y_modulation = s.y_modulation.next();
+    let z_modulation = s.z_modulation.next();
     Positions {
-        phase: advance(s.phase, f0.value),
-        x_lp: utils::one_pole(s.x_lp, x.value, lp_coefficient),
-        y_lp: utils::one_pole(s.y_lp, y.value, lp_coefficient),
-        z_lp: utils::one_pole(s.z_lp, z.value, lp_coefficient),
-        x,
-        y,
-        z,
-        f0,
+        phase: advance(s.phase, f0_modulation.value),
+        x_lp: utils::one_pole(s.x_lp, x_modulation.value, lp_coefficient),
+        y_lp: utils::one_pole(s.y_lp, y_modulation.value, lp_coefficient),
+        z_lp: utils::one_pole(s.z_lp, z_modulation.value, lp_coefficient),
+        x_modulation,
+        y_modulation,
+        z_modulation,
+        f0_modulation,
     }
 }
 
@@ -69,10 +69,10 @@ fn parts_of(s: Positions) -> Parts
     ensures { λ r. ⌜ r ≡ partsOf s ⌝ }
 {
     Parts {
-        x: words::held_part(s.x_lp, crate::WavetableEngine::X_TOP),
-        y: words::held_part(s.y_lp, crate::WavetableEngine::Y_TOP),
-        z: words::held_part(s.z_lp, crate::WavetableEngine::Z_TOP),
-        phase: words::held_part(
+        x: crate::parts::part(s.x_lp, crate::WavetableEngine::X_TOP),
+        y: crate::parts::part(s.y_lp, crate::WavetableEngine::Y_TOP),
+        z: crate::parts::part(s.z_lp, crate::WavetableEngine::Z_TOP),
+        phase: crate::parts::part(
             s.phase * crate::TABLE_SIZE_F,
             crate::WavetableEngine::PHASE_TOP,
         ),
@@ -98,6 +98,7 @@ fn key(p: Parts) -> u32
     (p.x.whole + p.y.whole * 8 + p.z.whole * 64 + p.phase.whole * 512) as u32
 }
 
+// Where `size` frames read: the whole parts of each in one number, and the four fractions.
 pub fn walk(
     start: Positions,
     lp_coefficient: f32,
@@ -132,18 +133,21 @@ pub fn walk(
     }
 }
 
+// What makes up for the integration of the waves.
 fn gain(f0: f32) -> f32
     ensures { λ r. ⌜ r ≡ gainOf f0 ⌝ }
 {
     (1.0 / (f0 * 131072.0)) * (0.95 - f0)
 }
 
+// The differentiator's coefficient.
 fn cutoff(f0: f32) -> f32
     ensures { λ r. ⌜ r ≡ cutoffOf f0 ⌝ }
 {
     utils::min(crate::TABLE_SIZE_F * f0, 1.0)
 }
 
+// The readings of `size` frames made samples.
 pub fn differentiate_all(
     diff_out: Differentiator,
     f0: ParameterInterpolator,
@@ -175,6 +179,7 @@ fn lofi(x: f32) -> f32
     words::whole_i32_float(x * 32.0) / 32.0
 }
 
+// The samples as words, and again in 5 bits.
 pub fn words_all(samples: &[f32; 256], out: &mut [u32], aux: &mut [u32])
     requires { ⌜ (length (now out) ≤ maxFrames) × (length (now aux) ≡ length (now out)) ⌝ }
     ensures { λ _. ⌜ Filled (λ j. toBits binary32 (getD (now (samples .entry)) j nan)) 0 (now (out .exit)) (length (now (out .entry))) ⌝ }

@@ -18,6 +18,7 @@ use utils::engine::EngineParameters;
 use utils::parameter_interpolator::ParameterInterpolator;
 
 pub mod frames;
+pub mod parts;
 pub mod readings;
 
 // A period of a wave. In the bank, a wave has its first samples once more after its last.
@@ -140,10 +141,22 @@ impl WavetableEngine {
                 x_lp: self.x_lp,
                 y_lp: self.y_lp,
                 z_lp: self.z_lp,
-                x: ParameterInterpolator::new(self.previous_x, quantise(x, quantization), size),
-                y: ParameterInterpolator::new(self.previous_y, quantise(y, quantization), size),
-                z: ParameterInterpolator::new(self.previous_z, quantise(z, quantization), size),
-                f0: ParameterInterpolator::new(self.previous_f0, f0, size),
+                x_modulation: ParameterInterpolator::new(
+                    self.previous_x,
+                    quantise(x, quantization),
+                    size,
+                ),
+                y_modulation: ParameterInterpolator::new(
+                    self.previous_y,
+                    quantise(y, quantization),
+                    size,
+                ),
+                z_modulation: ParameterInterpolator::new(
+                    self.previous_z,
+                    quantise(z, quantization),
+                    size,
+                ),
+                f0_modulation: ParameterInterpolator::new(self.previous_f0, f0, size),
             },
         }
     }
@@ -188,7 +201,13 @@ impl WavetableEngine {
         );
         readings::read_all(bank, size, keys, run_4, corners);
         readings::fold_all(size, run_1, run_2, run_3, corners, run_4);
-        let diff_out = frames::differentiate_all(self.diff_out, start.f0, size, run_4, run_1);
+        let diff_out = frames::differentiate_all(
+            self.diff_out,
+            start.f0_modulation,
+            size,
+            run_4,
+            run_1,
+        );
         frames::words_all(run_1, out, aux);
         let end = w.end;
         Block {
@@ -200,10 +219,10 @@ impl WavetableEngine {
                 x_lp: end.x_lp,
                 y_lp: end.y_lp,
                 z_lp: end.z_lp,
-                previous_x: end.x.value,
-                previous_y: end.y.value,
-                previous_z: end.z.value,
-                previous_f0: end.f0.value,
+                previous_x: end.x_modulation.value,
+                previous_y: end.y_modulation.value,
+                previous_z: end.z_modulation.value,
+                previous_f0: end.f0_modulation.value,
                 diff_out,
             },
             held: w.held,

@@ -14,6 +14,11 @@ const WAVES: usize = 192;
 
 const WAVE_LENGTH: usize = crate::TABLE_SIZE + 4;
 
+// How far apart the neighbours of level 3 lie in the bank, along x and along y.
+const SPREAD: usize = 101;
+
+const SPREAD_Y: usize = 8 * SPREAD % WAVES;
+
 // Where the four waves of a level start.
 pub struct Level {
     pub x0y0: usize,
@@ -42,14 +47,14 @@ fn fold_level(z: usize) -> usize
 fn along_x(level: usize) -> usize
     ensures { λ r. ⌜ r ≡ spread level ⌝ }
 {
-    if level == 3 { 101 } else { 1 }
+    if level == 3 { SPREAD } else { 1 }
 }
 
-// And along y: 808, of 192, at level 3.
+// And along y.
 fn along_y(level: usize) -> usize
     ensures { λ r. ⌜ r ≡ 8 * spread level % waves ⌝ }
 {
-    if level == 3 { 40 } else { 8 }
+    if level == 3 { SPREAD_Y } else { 8 }
 }
 
 // The wave number of a corner.
@@ -58,7 +63,7 @@ fn wave(x: usize, y: usize, level: usize) -> usize
     ensures { λ r. ⌜ r ≡ wave x y level ⌝ }
 {
     if level == 3 {
-        ((x + y * 8) * 101) % WAVES
+        ((x + y * 8) * SPREAD) % WAVES
     } else {
         x + y * 8 + level * 64
     }
@@ -76,6 +81,7 @@ fn further(wave: usize, step: usize) -> usize
     }
 }
 
+// The places of a level's four waves around x, y.
 fn level_at(x: usize, y: usize, level: usize) -> Level
     requires { ⌜ (x < 8) × ((y < 8) × (level < 4)) ⌝ }
     ensures { λ r. ⌜ r ≡ placesOfLevel x y level ⌝ }
@@ -92,6 +98,7 @@ fn level_at(x: usize, y: usize, level: usize) -> Level
     }
 }
 
+// The places of a key, which is x + 8 y + 64 z.
 fn places_at(key: u32) -> Places
     requires { ⌜ key < 448 ⌝ }
     ensures { λ r. ⌜ r ≡ placesOf key ⌝ }
@@ -119,6 +126,7 @@ fn places_for(at_hand: Places, key: u32) -> Places
     }
 }
 
+// The readings of two waves at a phase: its whole part p, its fraction f.
 fn read_row(bank: &[i16], a: usize, b: usize, p: usize, f: f32) -> [f32; 2]
     requires { ⌜ length (now bank) ≡ bankLength ⌝ }
     requires { ⌜ (a + waveLength ≤ bankLength) × ((b + waveLength ≤ bankLength) × (p < tableSize)) ⌝ }
@@ -129,6 +137,7 @@ fn read_row(bank: &[i16], a: usize, b: usize, p: usize, f: f32) -> [f32; 2]
     [x0, x1]
 }
 
+// The four readings of a level, by y and x.
 fn read_level(bank: &[i16], s: Level, p: usize, f: f32) -> [[f32; 2]; 2]
     requires { ⌜ (length (now bank) ≡ bankLength) × (p < tableSize) ⌝ }
     requires { ⌜ LevelFits s ⌝ }
@@ -139,6 +148,7 @@ fn read_level(bank: &[i16], s: Level, p: usize, f: f32) -> [[f32; 2]; 2]
     [y0, y1]
 }
 
+// The eight corner readings, by z, y and x.
 fn read_corners(bank: &[i16], s: Places, p: usize, f: f32) -> [[[f32; 2]; 2]; 2]
     requires { ⌜ (length (now bank) ≡ bankLength) × (p < tableSize) ⌝ }
     requires { ⌜ s ≡ placesOf (s .key) ⌝ }
@@ -149,6 +159,7 @@ fn read_corners(bank: &[i16], s: Places, p: usize, f: f32) -> [[[f32; 2]; 2]; 2]
     [z0, z1]
 }
 
+// The corners into eight places of the lent list.
 fn store(c: [[[f32; 2]; 2]; 2], at: usize, corners: &mut [f32])
     requires { ⌜ at + 7 < length (now corners) ⌝ }
     ensures { λ _. ⌜ now (corners .exit) ≡ stored (now (corners .entry)) at c ⌝ }
@@ -163,6 +174,7 @@ fn store(c: [[[f32; 2]; 2]; 2], at: usize, corners: &mut [f32])
     corners[at + 7] = c[1][1][1];
 }
 
+// The corner readings of `size` frames.
 pub fn read_all(
     bank: &[i16],
     size: usize,
@@ -185,6 +197,7 @@ pub fn read_all(
     }
 }
 
+// The corners out of eight places of the list.
 fn load(corners: &[f32; 1024], at: usize) -> [[[f32; 2]; 2]; 2]
     requires { ⌜ at + 7 < 1024 ⌝ }
     ensures { λ r. ⌜ r ≡ loaded (now (corners .entry)) at ⌝ }
@@ -201,12 +214,14 @@ fn load(corners: &[f32; 1024], at: usize) -> [[[f32; 2]; 2]; 2]
     ]
 }
 
+// Between two readings.
 fn mix(a: f32, b: f32, t: f32) -> f32
     ensures { λ r. ⌜ r ≡ mix a b t ⌝ }
 {
     a + (b - a) * t
 }
 
+// The corners folded along x.
 fn fold_x(c: [[[f32; 2]; 2]; 2], t: f32) -> [[f32; 2]; 2]
     ensures { λ r. ⌜ r ≡ foldX c t ⌝ }
 {
@@ -222,18 +237,21 @@ fn fold_x(c: [[[f32; 2]; 2]; 2], t: f32) -> [[f32; 2]; 2]
     ]
 }
 
+// And along y.
 fn fold_y(c: [[f32; 2]; 2], t: f32) -> [f32; 2]
     ensures { λ r. ⌜ r ≡ foldY c t ⌝ }
 {
     [mix(c[0][0], c[0][1], t), mix(c[1][0], c[1][1], t)]
 }
 
+// And along z.
 fn fold_z(c: [f32; 2], t: f32) -> f32
     ensures { λ r. ⌜ r ≡ foldZ c t ⌝ }
 {
     mix(c[0], c[1], t)
 }
 
+// The folded corners of `size` frames.
 pub fn fold_all(
     size: usize,
     xs: &[f32; 256],

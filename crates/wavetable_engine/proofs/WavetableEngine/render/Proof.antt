@@ -1,16 +1,8 @@
-use mathlib.Core.Path.{_≡_, _∙_}
+-- The block: what the stages leave behind them is the block frame by frame (Composed).
+use mathlib.Core.Path.{_∙_}
 use native.Mathlib.Omega.{arith}
 use lib.ListN.{length}
-use Rattle.wavetable_engine.proofs.Composed.{
-  keys-fit,
-  Staged,
-  set-up-by,
-  state-is,
-  held-is,
-  held-fits,
-  out-is,
-  aux-is,
-}
+use Rattle.wavetable_engine.proofs.Composed.{keys-fit, Staged, set-up-by, state-is, held-is, held-fits, out-is, aux-is}
 use borrow.Author.Needs.{needs}
 use Rattle.wavetable_engine.proofs.WavetableEngine.render.Statement.{statement}
 use Rattle.wavetable_engine.proofs.WavetableEngine.render.Tie as tie

@@ -1,3 +1,4 @@
+-- The differentiator's loop, by the law that its stage goes on (Differentiating).
 use Rattle.wavetable_engine.specs.Stages.{Differentiating}
 use mathlib.Core.Path.{_≡_, refl, ap, _∙_}
 use borrow.Author.Needs.{needs}
@@ -5,7 +6,6 @@ use Rattle.wavetable_engine.proofs.Differentiating.{Going, begins, goes
 use lib.ListN.{length, length-set}
 use native.Mathlib.Omega.{arith}
 use Prim.Native.Nat.{_≤_, _-_}
-use mathlib.Core.Path.{_≡_, refl}
 use Rattle.wavetable_engine.proofs.frames.differentiate_all.Statement.{statement}
 use Rattle.wavetable_engine.proofs.frames.differentiate_all.Tie as tie
 use Rattle.wavetable_engine.proofs.frames.differentiate_all.Reads as reads

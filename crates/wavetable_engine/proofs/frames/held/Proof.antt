@@ -1,3 +1,4 @@
+-- A frame with any hold counts 1: the four tests by the ways that control came.
 use Rattle.wavetable_engine.specs.Wavetable.{heldOf}
 use mathlib.Core.Logic.{⊎-elim}
 use mathlib.Core.Bool.{Bool, true, false, cond, _||_}

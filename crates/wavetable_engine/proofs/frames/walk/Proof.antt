@@ -1,9 +1,8 @@
+-- The walk's loop, by the law that a walk goes on (Walking).
 use borrow.Author.Needs.{needs}
 use Rattle.wavetable_engine.proofs.Walking.{Walking, begins, goes-on, ends, parts-fit, held-most}
-use lib.ListN.{length, length-set}
 use native.Mathlib.Omega.{arith}
 use Prim.Native.Nat.{_≤_, _-_}
-use mathlib.Core.Path.{_≡_, refl}
 use Rattle.wavetable_engine.proofs.frames.walk.Statement.{statement}
 use Rattle.wavetable_engine.proofs.frames.walk.Tie as tie
 use Rattle.wavetable_engine.proofs.frames.walk.Reads as reads

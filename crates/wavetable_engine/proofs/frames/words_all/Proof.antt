@@ -1,4 +1,5 @@
-use mathlib.Core.Path.{_≡_, refl, ap, _∙_}
+-- The loop that writes the words, by the law of a list that is filled from the front.
+use mathlib.Core.Path.{_≡_, refl, _∙_}
 use borrow.Author.Needs.{needs}
 use Rattle.wavetable_engine.specs.Wavetable.{lofi}
 use Rattle.utils.proofs.Frames.{Filled, filled-none, filled-more}
@@ -6,7 +7,6 @@ use lib.Ieee.{nan, binary32, toBits}
 use lib.ListN.{length, getD, length-set}
 use native.Mathlib.Omega.{arith}
 use Prim.Native.Nat.{_≤_, _-_}
-use mathlib.Core.Path.{_≡_, refl}
 use Rattle.wavetable_engine.proofs.frames.words_all.Statement.{statement}
 use Rattle.wavetable_engine.proofs.frames.words_all.Tie as tie
 use Rattle.wavetable_engine.proofs.frames.words_all.Reads as reads

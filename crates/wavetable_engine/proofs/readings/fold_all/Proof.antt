@@ -1,3 +1,4 @@
+-- The folds' loop, by the law of a list that is filled from the front.
 use Prim.Native.Nat.{_≤_, _-_}
 use mathlib.Core.Path.{_≡_, refl, _∙_}
 use borrow.Author.Needs.{needs}
@@ -6,8 +7,6 @@ use Rattle.utils.proofs.Frames.{Filled, filled-none, filled-more}
 use lib.Ieee.{nan}
 use lib.ListN.{length, length-set}
 use native.Mathlib.Omega.{arith}
-use Prim.Native.Nat.{_≤_, _-_}
-use mathlib.Core.Path.{_≡_, refl}
 use Rattle.wavetable_engine.proofs.readings.fold_all.Statement.{statement}
 use Rattle.wavetable_engine.proofs.readings.fold_all.Tie as tie
 use Rattle.wavetable_engine.proofs.readings.fold_all.Reads as reads

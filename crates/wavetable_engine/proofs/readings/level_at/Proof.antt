@@ -1,3 +1,4 @@
+-- The four waves of a level, each a step from the one before it (Waves).
 use Rattle.wavetable_engine.specs.Stages.{placesOfLevel}
 use native.Mathlib.Omega.{arith}
 use Rattle.wavetable_engine.proofs.Waves.{wave-below, wave-along-x, wave-along-y, spread-below}

@@ -1,15 +1,12 @@
+-- The readings' loop: the places at hand are always those of the key they carry, and one more frame's corners are stored (Stored).
 use mathlib.Core.Path.{_≡_, refl, _∙_}
-use Rattle.wavetable_engine.specs.Wavetable.{cornersAt}
-use lib.Ieee.{nan}
-use lib.ListN.{getD}
+use lib.ListN.{length}
 use Rattle.wavetable_engine.proofs.Corners.{own-key, by-own-key}
 use borrow.Author.Needs.{needs}
 use Rattle.wavetable_engine.proofs.Stored.{none-read, one-more-read}
 use Rattle.wavetable_engine.specs.Stages.{placesOf, CornersRead}
-use lib.ListN.{length}
 use native.Mathlib.Omega.{arith}
 use Prim.Native.Nat.{_+_, _*_, _-_, _≤_, _<_}
-use mathlib.Core.Path.{_≡_, refl}
 use Rattle.wavetable_engine.proofs.readings.read_all.Statement.{statement}
 use Rattle.wavetable_engine.proofs.readings.read_all.Tie as tie
 use Rattle.wavetable_engine.proofs.readings.read_all.Reads as reads

@@ -1,5 +1,5 @@
 use native.Mathlib.Omega.{arith}
-use mathlib.Core.Path.{sym, ap, _∙_}
+use mathlib.Core.Path.{sym}
 use Rattle.wavetable_engine.proofs.Waves.{wave-low, wave-top}
 use borrow.Author.Needs.{needs}
 use Rattle.wavetable_engine.proofs.readings.wave.Statement.{statement}
