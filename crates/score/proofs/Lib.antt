@@ -1,3 +1,12 @@
 -- What the proofs of this crate share.
 pub mod Order
 pub mod Within
+pub mod Split
+pub mod Names
+pub mod FirstLine
+pub mod Digits
+pub mod Fields
+pub mod Rows
+pub mod Storing
+pub mod Settling
+pub mod Examples

@@ -1,1 +1,5 @@
 pub mod Limits
+pub mod Numbers
+pub mod Text
+pub mod Reading
+pub mod Inner

@@ -1,0 +1,111 @@
+-- Digits and words, byte by byte: a run of bytes of a text is the list of its bytes, and two halves of a word make the word.
+use mathlib.Core.Path.{_≡_, refl, sym, ap, _∙_}
+use mathlib.Core.Bool.{Bool, true, false, _&&_, _||_, cond, false≢true, and-eq-true-iff}
+use mathlib.Core.List.{List, [], _∷_, _++_}
+use Prim.Native.Nat.{ℕ, zero, suc, _+_, _-_, _*_, _/_, _%_, _≤_, _<_, zero-le, suc-le-suc}
+use native.Mathlib.Nat.{add-suc, add-zero}
+use native.Mathlib.Omega.{arith}
+use borrow.Author.Tests.{leb-true, eqb-true}
+use lib.Dec.{leb, eqb}
+use lib.ListN.{length, getD, take, drop, length-drop}
+use lib.Seq.{drop-cons, take-add, drop-drop}
+use Rattle.score.specs.Text.{between, isDigit, digitOf, eachDigit, wordDigits, isWord, followedBy, wordOf}
+
+-- both halves of a conjunction
+pub both : (a b : Bool) → a && b ≡ true → (a ≡ true) × (b ≡ true)
+both true b e = (refl, e)
+both false b e = absurd (false≢true e)
+
+-- ---- a digit
+inside : (low high b : ℕ) → between low high b ≡ true → (low ≤ b) × (b ≤ high)
+inside low high b e = let p = both (leb low b) (leb b high) e in (leb-true low b (p .0), leb-true b high (p .1))
+
+pub digit-value : (b : ℕ) → isDigit b ≡ true → (b % 16 + b / 64 * 9 ≡ digitOf b) × (b % 16 + b / 64 * 9 < 16)
+unfolding isDigit digitOf
+digit-value b e = go (between 48 57 b) (between 65 70 b) (between 97 102 b) (inside 48 57 b) (inside 65 70 b) (inside 97 102 b) e
+  where
+    go : (p q r : Bool) → (p ≡ true → (48 ≤ b) × (b ≤ 57)) → (q ≡ true → (65 ≤ b) × (b ≤ 70)) → (r ≡ true → (97 ≤ b) × (b ≤ 102)) → p || (q || r) ≡ true
+        → (b % 16 + b / 64 * 9 ≡ cond p (b - 48) (cond q (b - 65 + 10) (b - 97 + 10))) × (b % 16 + b / 64 * 9 < 16)
+    go true q r f g h e = let i = f refl in (omega arith, omega arith)
+    go false true r f g h e = let i = g refl in (omega arith, omega arith)
+    go false false true f g h e = let i = h refl in (omega arith, omega arith)
+    go false false false f g h e = absurd (false≢true e)
+
+-- ---- a run of bytes
+abbrev pub run : ℕ → List ℕ → ℕ → ℕ → List ℕ
+run zero text at k = []
+run (suc n) text at k = getD text (at + k) 0 ∷ run n text at (suc k)
+
+run-at : (n : ℕ) (text : List ℕ) (at k : ℕ) → at + k + n ≤ length text → take n (drop (at + k) text) ≡ run n text at k
+run-at zero text at k h = refl
+run-at (suc n) text at k h = rw (drop-cons text (at + k) 0 (omega arith), sym (add-suc at k)) (ap (λ (r : List ℕ). getD text (at + k) 0 ∷ r) (run-at n text at (suc k) (omega arith)))
+
+pub is-run : (n : ℕ) (text : List ℕ) (at : ℕ) → at + n ≤ length text → take n (drop at text) ≡ run n text at 0
+is-run n text at h = ap (λ (k : ℕ). take n (drop k text)) (sym (add-zero at)) ∙ run-at n text at 0 (omega arith)
+
+-- ---- a word and its halves
+pub long-enough : (n : ℕ) (l : List ℕ) → length (take n l) ≡ n → n ≤ length l
+long-enough zero l e = zero-le
+long-enough (suc n) [] e = absurd (omega arith)
+long-enough (suc n) (x ∷ l) e = suc-le-suc (long-enough n l (omega arith))
+
+each-digit-of : (a b : List ℕ) → eachDigit (a ++ b) ≡ true → (eachDigit a ≡ true) × (eachDigit b ≡ true)
+unfolding eachDigit
+each-digit-of [] b e = (refl, e)
+each-digit-of (x ∷ a) b e =
+    let p = both (isDigit x) (eachDigit (a ++ b)) e in
+    let q = each-digit-of a b (p .1) in
+    (rw (p .0) (q .0), q .1)
+
+followed : (number : ℕ) (a b : List ℕ) → followedBy number (a ++ b) ≡ followedBy (followedBy number a) b
+unfolding followedBy
+followed number [] b = refl
+followed number (x ∷ a) b = followed _ a b
+
+pub and-true : (b : Bool) → b && true ≡ b
+and-true true = refl
+and-true false = refl
+
+module _ (text : List ℕ) (at : ℕ) where
+  pub word-by-digits : at + wordDigits ≤ length text
+      → isDigit (getD text at 0)
+        && (isDigit (getD text (at + 1) 0) && (isDigit (getD text (at + 2) 0) && (isDigit (getD text (at + 3) 0) && (isDigit (getD text (at + 4) 0) && (isDigit (getD text (at + 5) 0) && (isDigit (getD text (at + 6) 0) && isDigit (getD text (at + 7) 0)))))))
+      ≡ isWord (take wordDigits (drop at text))
+  unfolding isWord eachDigit
+  word-by-digits h = rw (is-run wordDigits text at h, add-zero, and-true)
+
+  module _ (h : at + 4 ≤ length text) (e : eachDigit (take 4 (drop at text)) ≡ true) where
+    pub four-digits : (isDigit (getD text at 0) ≡ true) × (isDigit (getD text (at + 1) 0) ≡ true) × (isDigit (getD text (at + 2) 0) ≡ true) × (isDigit (getD text (at + 3) 0) ≡ true)
+    unfolding eachDigit
+    four-digits =
+        let p = both _ _ (rw (is-run 4 text at h, add-zero) at e) in
+        let q = both _ _ (p .1) in
+        let r = both _ _ (q .1) in
+        (p .0, q .0, r .0, both _ _ (r .1) .0)
+
+  pub four-value : at + 4 ≤ length text
+      → digitOf (getD text at 0) * 4096 + digitOf (getD text (at + 1) 0) * 256 + digitOf (getD text (at + 2) 0) * 16 + digitOf (getD text (at + 3) 0) ≡ wordOf (take 4 (drop at text))
+  unfolding wordOf followedBy
+  four-value h = rw (is-run 4 text at h, add-zero) (omega arith)
+
+  after-four : (number : ℕ) → at + 4 ≤ length text → number * 65536 + wordOf (take 4 (drop at text)) ≡ followedBy number (take 4 (drop at text))
+  unfolding wordOf followedBy
+  after-four number h = rw (is-run 4 text at h) (omega arith)
+
+module _ (text : List ℕ) (at : ℕ) (e : isWord (take wordDigits (drop at text)) ≡ true) where
+  pub word-fits : at + wordDigits ≤ length text
+  unfolding isWord
+  word-fits = omega (arith, long-enough wordDigits (drop at text) (eqb-true _ _ (both _ _ e .0)), length-drop at text)
+
+  halves : take wordDigits (drop at text) ≡ take 4 (drop at text) ++ take 4 (drop (at + 4) text)
+  halves = take-add 4 4 (drop at text) ∙ ap (λ (l : List ℕ). take 4 (drop at text) ++ take 4 l) (drop-drop 4 at text)
+
+  pub half-digits : (eachDigit (take 4 (drop at text)) ≡ true) × (eachDigit (take 4 (drop (at + 4) text)) ≡ true)
+  unfolding isWord
+  half-digits = each-digit-of _ _ (ap eachDigit (sym halves) ∙ both (eqb (length (take wordDigits (drop at text))) wordDigits) _ e .1)
+
+  pub word-of-halves : wordOf (take 4 (drop at text)) * 65536 + wordOf (take 4 (drop (at + 4) text)) ≡ wordOf (take wordDigits (drop at text))
+  unfolding wordOf
+  word-of-halves =
+      after-four text (at + 4) (wordOf (take 4 (drop at text))) (omega (arith, word-fits))
+      ∙ sym (ap wordOf halves ∙ followed 0 (take 4 (drop at text)) (take 4 (drop (at + 4) text)))
