@@ -1,6 +1,6 @@
 -- Digits and words, byte by byte: a run of bytes of a text is the list of its bytes, and two halves of a word make the word.
 use mathlib.Core.Path.{_≡_, refl, sym, ap, _∙_}
-use mathlib.Core.Bool.{Bool, true, false, _&&_, _||_, cond, false≢true, and-eq-true-iff}
+use mathlib.Core.Bool.{Bool, true, false, _&&_, _||_, cond, false≢true}
 use mathlib.Core.List.{List, [], _∷_, _++_}
 use Prim.Native.Nat.{ℕ, zero, suc, _+_, _-_, _*_, _/_, _%_, _≤_, _<_, zero-le, suc-le-suc}
 use native.Mathlib.Nat.{add-suc, add-zero}
@@ -69,7 +69,7 @@ and-true false = refl
 module _ (text : List ℕ) (at : ℕ) where
   pub word-by-digits : at + wordDigits ≤ length text
       → isDigit (getD text at 0)
-        && (isDigit (getD text (at + 1) 0) && (isDigit (getD text (at + 2) 0) && (isDigit (getD text (at + 3) 0) && (isDigit (getD text (at + 4) 0) && (isDigit (getD text (at + 5) 0) && (isDigit (getD text (at + 6) 0) && isDigit (getD text (at + 7) 0)))))))
+      && (isDigit (getD text (at + 1) 0) && (isDigit (getD text (at + 2) 0) && (isDigit (getD text (at + 3) 0) && (isDigit (getD text (at + 4) 0) && (isDigit (getD text (at + 5) 0) && (isDigit (getD text (at + 6) 0) && isDigit (getD text (at + 7) 0)))))))
       ≡ isWord (take wordDigits (drop at text))
   unfolding isWord eachDigit
   word-by-digits h = rw (is-run wordDigits text at h, add-zero, and-true)

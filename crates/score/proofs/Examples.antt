@@ -1,14 +1,14 @@
 -- Document 01's own texts, read by the definitions: each by computation.
 use mathlib.Core.Path.{_≡_, refl}
-use mathlib.Core.List.{List, [], _∷_, _++_}
+use mathlib.Core.List.{List}
 use Prim.Native.Nat.{ℕ}
 use lib.ListN.{replicate}
 use lib.Ieee.{ofBits, le}
 use Rattle.words.specs.Binary32.{decimal}
 use Rattle.score.specs.Limits.{floatTo, limit, rowWithin}
-use Rattle.score.specs.Numbers.{success, refused}
+use Rattle.score.specs.Numbers.{success}
 use Rattle.score.specs.Text.{bytes, split, linesOf, same, columnOf, columnsOf, eachBelow, holdsNames, isDigit, digitOf, eachDigit, isWord, followedBy, wordOf, eachWord, holdsWords, rowOf, rowsOf}
-use Rattle.score.specs.Reading.{lineNumber, testLines, testText, textRows, Outcome, store, scoreNames, settleScore, readOf}
+use Rattle.score.specs.Reading.{lineNumber, testLines, testText, textRows, store, scoreNames, settleScore, readOf}
 
 abbrev score : List ℕ
 score =

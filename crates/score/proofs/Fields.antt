@@ -1,9 +1,9 @@
 -- A line of words, word by word: after a word and a space come the words that are left, and after a word and an LF the lines that are left.
-use mathlib.Core.Path.{_≡_, refl, sym, ap, _∙_, subst}
+use mathlib.Core.Path.{_≡_, refl, sym, ap, _∙_}
 use mathlib.Core.Logic.{⊎-elim}
-use mathlib.Core.Bool.{Bool, true, false, _&&_, cond, false≢true, true≢false}
+use mathlib.Core.Bool.{Bool, true, false, _&&_, true≢false}
 use mathlib.Core.List.{List, [], _∷_, _++_, append-nil}
-use Prim.Native.Nat.{ℕ, zero, suc, _+_, _-_, _*_, _≤_, _<_}
+use Prim.Native.Nat.{ℕ, zero, suc, _+_, _*_, _≤_, _<_}
 use native.Mathlib.Nat.{eq-or-lt-of-le}
 use native.Mathlib.Omega.{arith}
 use borrow.Author.Tests.{ltb-true, eqb-true, ne-eqb, eq-eqb, lt-ltb}
@@ -13,7 +13,7 @@ use lib.Seq.{drop-cons, take-take, getD-take, length-take-le, drop-drop}
 use Rattle.score.specs.Text.{lf, space, onFirst, split, Line, ended, unended, contents, lined, linesOf, firstOf, restOf, fieldsOf, isDigit, eachDigit, wordDigits, isWord, eachWord, holdsWords}
 use Rattle.score.specs.Inner.{startsWord}
 use Rattle.score.proofs.Order.{le-or-lt}
-use Rattle.score.proofs.Split.{reach, after, first-piece, reach-fits, reach-at}
+use Rattle.score.proofs.Split.{reach, first-piece, reach-fits, reach-at}
 use Rattle.score.proofs.FirstLine.{lined-cut, first-line, open-line}
 use Rattle.score.proofs.Digits.{both, and-true}
 
@@ -254,7 +254,7 @@ right-more count text e r =
       fits = omega (arith, r .fits, length-drop fieldBytes text, starts-long space text e);
       rest = lines-on text e ∙ r .rest ∙ ap linesOf (past count);
       field = field;
-      word = word
+      word = word;
     }
   where
     past : (c : ℕ) → drop (c * fieldBytes) (drop fieldBytes text) ≡ drop (suc c * fieldBytes) text

@@ -1,18 +1,18 @@
 -- The lines of a text, from the front: what the first LF ends is the first line, and the others are the lines of what follows.
 use mathlib.Core.Path.{_≡_, refl, sym, ap, _∙_}
 use mathlib.Core.List.{List, [], _∷_}
-use mathlib.Core.Bool.{Bool, true, false, _&&_, cond}
+use mathlib.Core.Bool.{Bool, true, false, cond}
 use Prim.Native.Nat.{ℕ, suc, _+_, _≤_, _<_}
 use native.Mathlib.Numerals.{add-one}
 use native.Mathlib.Omega.{arith}
 use borrow.Author.Tests.{lt-ltb, le-ltb, eq-eqb, ne-eqb}
-use lib.Dec.{ltb, eqb}
-use lib.ListN.{length, getD, take, drop, drop-of-length-le}
+use lib.Dec.{eqb}
+use lib.ListN.{length, take, drop, drop-of-length-le}
 use lib.Seq.{take-all, drop-cons}
 use Rattle.score.specs.declared.header.Header.{Header}
-use Rattle.score.specs.Text.{lf, onFirst, split, Line, ended, unended, lined, linesOf, firstOf, restOf, fieldsOf, columnsOf, eachBelow, holdsNames}
+use Rattle.score.specs.Text.{lf, onFirst, split, ended, unended, lined, linesOf, firstOf, restOf, fieldsOf, columnsOf, eachBelow, holdsNames}
 use Rattle.score.specs.Inner.{Headed}
-use Rattle.score.proofs.Split.{reach, after, first-piece}
+use Rattle.score.proofs.Split.{reach, first-piece}
 
 lined-ended : (p q : List ℕ) (qs ps : List (List ℕ)) → ps ≡ q ∷ qs → lined (p ∷ ps) ≡ ended p ∷ lined ps
 lined-ended [] q qs ps e = rw e
@@ -93,5 +93,5 @@ module _ (names : List (List ℕ)) (text : List ℕ) (header : Header) where
             holds = on-first-line ∙ holds-by-columns ∙ b ∙ sym (lt-ltb 0 (header .next) (omega arith));
             inside = omega arith;
             lines = λ l. rw (first-line text end e h, n);
-            columns = λ l. rw (first-line text end e h, k) c
+            columns = λ l. rw (first-line text end e h, k) c;
           }

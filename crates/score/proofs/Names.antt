@@ -60,12 +60,12 @@ module _ (names : List ℕ) (fields : List (List ℕ)) (columns : List ℕ) wher
           inside = omega arith;
           long = length-set columns k _ ∙ h .long;
           many = omega (arith, h .many, ap length p);
-          stored = rw (add-one, take-suc-set columns k _ (omega (arith, left, h .long)), append-snoc) s
+          stored = rw (add-one, take-suc-set columns k _ (omega (arith, left, h .long)), append-snoc) s;
         }
 
   pub placed : (from k : ℕ) → Placed names fields columns from k → length names < from → columnsOf (fieldsOf names) fields ≡ take (length (fieldsOf names)) columns
   unfolding columnsOf
-  placed from k h l = 
+  placed from k h l =
       let e = no-piece space names from l in
       let n : k ≡ length (fieldsOf names) = omega (arith, h .many, ap length e) in
       rw (sym n) (sym (rw (e, append-nil) at (h .stored)))

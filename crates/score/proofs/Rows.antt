@@ -1,8 +1,8 @@
 -- The rows of lines of values: each word is read where its column stands, and each line where the one before it ends.
 use mathlib.Core.Path.{_≡_, refl, sym, ap, _∙_}
-use mathlib.Core.Bool.{Bool, true, false, _&&_, cond}
+use mathlib.Core.Bool.{Bool, true, false, cond}
 use mathlib.Core.List.{List, [], _∷_, _++_, append-nil}
-use Prim.Native.Nat.{ℕ, zero, suc, _+_, _-_, _*_, _≤_, _<_}
+use Prim.Native.Nat.{ℕ, zero, suc, _+_, _*_, _≤_, _<_}
 use native.Mathlib.Numerals.{add-one}
 use native.Mathlib.Omega.{arith}
 use borrow.Author.Tests.{ltb-true, ne-eqb}
@@ -70,7 +70,7 @@ module _ (columns : List ℕ) (line : Line) (count : ℕ) (enough : count ≤ le
       record {
         inside = omega arith;
         long = length-set row k word ∙ w .long;
-        stored = rw (add-one, take-suc-set row k word (omega (arith, w .long)), append-snoc, e) s
+        stored = rw (add-one, take-suc-set row k word (omega (arith, w .long)), append-snoc, e) s;
       }
 
   pub written : (k : ℕ) → Written columns line count row k → count ≤ k → row ≡ rowOf (take count columns) line

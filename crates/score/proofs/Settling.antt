@@ -1,6 +1,6 @@
 -- What a tested text comes to: the cases of `testText`, `store`, `readOf` and `readEditsOf`, each by the tests that lead to it.
 use mathlib.Core.Path.{_≡_, refl, sym, ap, _∙_}
-use mathlib.Core.Bool.{Bool, true, false, _&&_, cond, false≢true}
+use mathlib.Core.Bool.{Bool, true, false, cond, false≢true}
 use mathlib.Core.List.{List, [], _∷_, _++_}
 use Prim.Native.Nat.{ℕ, suc, _*_, _/_, _≤_, _<_}
 use native.Mathlib.Nat.{mul-comm, le-div-iff-mul-le, div-lt-iff-lt-mul}
@@ -12,7 +12,7 @@ use Rattle.score.specs.declared.header.Header.{Header}
 use Rattle.score.specs.Limits.{rowWords}
 use Rattle.score.specs.Numbers.{success, refused, rowsNumber, namesNumber, spaceNumber}
 use Rattle.score.specs.Text.{bytes, split, Line, ended, unended, contents, linesOf, firstOf, fieldsOf, columnsOf, eachBelow, holdsNames, rowsOf}
-use Rattle.score.specs.Reading.{lineNumber, testLines, testText, textRows, Outcome, refuse, store, scoreNames, mostRows, settleScore, readOf, editNames, editWords, settleEdits, readEditsOf}
+use Rattle.score.specs.Reading.{lineNumber, testLines, testText, textRows, refuse, store, scoreNames, mostRows, settleScore, readOf, editNames, editWords, settleEdits, readEditsOf}
 use Rattle.score.specs.Inner.{Headed, Columns}
 use Rattle.score.proofs.Digits.{both}
 use Rattle.score.proofs.Rows.{unlimited, value}
@@ -64,7 +64,7 @@ module _ (names : List (List ℕ)) (text : List ℕ) (header : Header) (h : Head
           below =
               ap (λ (m : ℕ). eachBelow m (take m (header .columns))) (sym n)
               ∙ ap (eachBelow (length names)) (sym (h .columns some))
-              ∙ held-columns names (firstOf (linesOf text)) (h .holds ∙ lt-ltb 0 (header .next) some)
+              ∙ held-columns names (firstOf (linesOf text)) (h .holds ∙ lt-ltb 0 (header .next) some);
         }
 
 -- a text that passes with its limits passes without

@@ -3,7 +3,7 @@ use mathlib.Core.Path.{_≡_, refl, sym, ap, _∙_}
 use mathlib.Core.Logic.{⊎-elim}
 use mathlib.Core.Bool.{Bool, true, false, cond}
 use mathlib.Core.List.{List, [], _∷_, _++_, append-nil, append-assoc}
-use Prim.Native.Nat.{ℕ, zero, suc, _+_, _-_, _*_, _≤_, _<_}
+use Prim.Native.Nat.{ℕ, suc, _+_, _-_, _*_, _≤_, _<_}
 use native.Mathlib.Nat.{mul-suc, mul-le-mul-left}
 use native.Mathlib.Numerals.{add-one}
 use native.Mathlib.Omega.{arith}
@@ -11,8 +11,8 @@ use borrow.Author.Tests.{eqb-true}
 use lib.Dec.{eqb}
 use lib.ListN.{length, take, drop, length-append, length-drop, take-append-drop}
 use lib.Seq.{length-take-le, take-at, drop-at, drop-drop}
-use Rattle.score.specs.Numbers.{Result, success, refused}
-use Rattle.score.specs.Text.{Line, linesOf, firstOf, restOf, holdsWords, rowOf, rowsOf}
+use Rattle.score.specs.Numbers.{success, refused}
+use Rattle.score.specs.Text.{Line, linesOf, restOf, holdsWords, rowOf, rowsOf}
 use Rattle.score.specs.Reading.{lineNumber, testLines}
 use Rattle.score.specs.Inner.{lineAt}
 use Rattle.score.proofs.Order.{le-or-lt}
@@ -122,7 +122,7 @@ module _ (count : ℕ) (columns text : List ℕ) (next lines : ℕ) (rows₀ : L
             long = rw (sym regroup, length-append (take base rows ++ row) (drop count (drop base rows)), front, length-drop count (drop base rows), length-drop base rows) (omega (arith, s .long, part-fits));
             tested = sym (line-passes count columns false text from k some number line-there) ∙ s .tested;
             stored = rw (sym regroup, take-at (take base rows ++ row) (drop count (drop base rows)) (base + count) front, append-assoc, r, sym rows-there) (s .stored);
-            kept = rest-kept
+            kept = rest-kept;
           })
 
   pub all-stored : (rows : List ℕ) (from base k : ℕ) → Stored count columns text next lines rows₀ rows from base k → lines ≤ k

@@ -2,11 +2,11 @@
 use Prim.Native.Nat.{ℕ, _≤_, _<_}
 use mathlib.Core.Path.{_≡_}
 use mathlib.Core.Bool.{Bool, true, _&&_}
-use mathlib.Core.List.{List, []}
+use mathlib.Core.List.{List}
 use lib.ListN.{length, getD, take, drop}
 use lib.Dec.{ltb, eqb}
 use Rattle.score.specs.declared.header.Header.{Header}
-use Rattle.score.specs.Text.{wordDigits, isWord, Line, linesOf, firstOf, restOf, columnsBy, holdsNames, eachBelow, holdsWords}
+use Rattle.score.specs.Text.{wordDigits, isWord, Line, linesOf, firstOf, restOf, columnsBy, holdsNames, eachBelow}
 
 -- A text's first line was read against some names: `next` is 0 if it does not hold them, and otherwise where the second line starts.
 pub record Headed (names : List (List ℕ)) (text : List ℕ) (header : Header) : Type 0 where

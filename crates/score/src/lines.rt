@@ -79,7 +79,13 @@ fn line_within(text: &[u8], from: usize, columns: &[usize; MOST_NAMES]) -> bool
 }
 
 // The number that refuses the line that starts at `from`, 0 if none does.
-pub fn line_number(text: &[u8], from: usize, columns: &[usize; MOST_NAMES], count: usize, limited: bool) -> u32
+pub fn line_number(
+    text: &[u8],
+    from: usize,
+    columns: &[usize; MOST_NAMES],
+    count: usize,
+    limited: bool,
+) -> u32
     requires { ⌜ from ≤ length (now text) ⌝ }
     requires { ⌜ Columns (now columns) count ⌝ }
     requires { ⌜ (limited ≡ true → count ≡ rowWords) ⌝ }

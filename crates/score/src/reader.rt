@@ -38,7 +38,13 @@ pub const MOST_ROWS: usize = 4096;
 pub const EDIT_WORDS: usize = ROW_WORDS + 1;
 
 // The lines of values from `next` on, each with a word for each of `count` names; and within the limits where these are tested.
-fn test_lines(text: &[u8], next: usize, columns: &[usize; MOST_NAMES], count: usize, limited: bool) -> ReadAnswer
+fn test_lines(
+    text: &[u8],
+    next: usize,
+    columns: &[usize; MOST_NAMES],
+    count: usize,
+    limited: bool,
+) -> ReadAnswer
     requires { ⌜ next ≤ length (now text) ⌝ }
     requires { ⌜ Columns (now columns) count ⌝ }
     requires { ⌜ (limited ≡ true → count ≡ rowWords) ⌝ }
@@ -58,7 +64,14 @@ fn test_lines(text: &[u8], next: usize, columns: &[usize; MOST_NAMES], count: us
 }
 
 // The rows of `lines` lines from `next` on.
-fn write_rows(text: &[u8], next: usize, columns: &[usize; MOST_NAMES], count: usize, lines: usize, rows: &mut [u32])
+fn write_rows(
+    text: &[u8],
+    next: usize,
+    columns: &[usize; MOST_NAMES],
+    count: usize,
+    lines: usize,
+    rows: &mut [u32],
+)
     requires { ⌜ (next ≤ length (now text)) × (count ≤ 6) ⌝ }
     requires { ⌜ Columns (now columns) count ⌝ }
     requires { ⌜ testLines count (take count (now columns)) false 0 (linesOf (drop next (now text))) ≡ success lines ⌝ }
@@ -78,7 +91,14 @@ fn write_rows(text: &[u8], next: usize, columns: &[usize; MOST_NAMES], count: us
 }
 
 // The rows of `lines` lines from `next` on, if there are words enough for them.
-fn store_rows(text: &[u8], next: usize, columns: &[usize; MOST_NAMES], count: usize, lines: usize, rows: &mut [u32]) -> ReadAnswer
+fn store_rows(
+    text: &[u8],
+    next: usize,
+    columns: &[usize; MOST_NAMES],
+    count: usize,
+    lines: usize,
+    rows: &mut [u32],
+) -> ReadAnswer
     requires { ⌜ (next ≤ length (now text)) × (count ≤ 6) ⌝ }
     requires { ⌜ Columns (now columns) count ⌝ }
     requires { ⌜ testLines count (take count (now columns)) false 0 (linesOf (drop next (now text))) ≡ success lines ⌝ }

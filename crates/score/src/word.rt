@@ -32,7 +32,9 @@ pub fn is_word(text: &[u8], at: usize) -> bool
         & (is_digit(text[at + 1])
             & (is_digit(text[at + 2])
                 & (is_digit(text[at + 3])
-                    & (is_digit(text[at + 4]) & (is_digit(text[at + 5]) & (is_digit(text[at + 6]) & is_digit(text[at + 7])))))))
+                    & (is_digit(text[at + 4])
+                        & (is_digit(text[at + 5])
+                            & (is_digit(text[at + 6]) & is_digit(text[at + 7])))))))
 }
 
 // The number that four digits at `at` write.
@@ -40,7 +42,10 @@ fn half_word(text: &[u8], at: usize) -> u32
     requires { ⌜ (at + 4 ≤ length (now text)) × (eachDigit (take 4 (drop at (now text))) ≡ true) ⌝ }
     ensures { λ r. ⌜ (r ≡ wordOf (take 4 (drop at (now (text .entry))))) × (r < 65536) ⌝ }
 {
-    digit(text[at]) * 4096 + digit(text[at + 1]) * 256 + digit(text[at + 2]) * 16 + digit(text[at + 3])
+    digit(text[at]) * 4096
+        + digit(text[at + 1]) * 256
+        + digit(text[at + 2]) * 16
+        + digit(text[at + 3])
 }
 
 // The word that stands at `at`.

@@ -1,10 +1,9 @@
 -- `score::header::columns_of` meets its contract: the columns stored and those of the names from `from` on are all.
-use mathlib.Core.Path.{_≡_, sym, ap, _∙_}
-use Prim.Native.Nat.{_+_, _-_, _≤_}
+use Prim.Native.Nat.{_+_, _-_}
 use native.Mathlib.Omega.{arith}
 use borrow.Author.Needs.{needs}
 use lib.ListN.{length}
-use Rattle.score.specs.Text.{space, fieldsOf}
+use Rattle.score.specs.Text.{fieldsOf}
 use Rattle.score.proofs.Names.{Placed, places, left, places-on, placed}
 use Rattle.score.proofs.header.columns_of.Statement.{statement}
 use Rattle.score.proofs.header.columns_of.Tie as tie

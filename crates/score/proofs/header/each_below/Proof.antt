@@ -4,7 +4,6 @@ use mathlib.Core.Bool.{true, false}
 use mathlib.Core.List.{List, _∷_}
 use Prim.Native.Nat.{ℕ, suc, _+_, _-_, _≤_, _<_}
 use native.Mathlib.Numerals.{add-one}
-use native.Mathlib.Omega.{arith}
 use borrow.Author.Tests.{lt-ltb, le-ltb}
 use borrow.Author.Needs.{needs}
 use lib.ListN.{length, getD, take, drop, drop-of-length-le}

@@ -1,5 +1,5 @@
 -- `score::header::read_names` meets its contract: the first line is what the first LF ends, and it is tested as `holdsNames` has it.
-use mathlib.Core.Path.{_≡_, refl, sym, _∙_}
+use mathlib.Core.Path.{refl, sym, _∙_}
 use native.Mathlib.Omega.{arith}
 use borrow.Author.Needs.{needs}
 use lib.Seq.{length-take-le}
@@ -47,14 +47,14 @@ none-requires-3 : tie.Need-none-requires-3
 none-requires-3 c κs = search needs
 
 returns-3 : tie.Need-returns-3
-returns-3 c = 
+returns-3 c =
     let b = c .before .before in
     let p = b .before .before .before .before .before .before in
     headed _ _ _ (p .piece-end .result) (omega (arith, p .piece-end .ensures .0)) (search needs) (b .columns-of .result) (b .before .before .before .count-fields .result)
     (b .before .before .before .count-fields .ensures) (search needs) (b .columns-of .ensures) refl refl (sym (c .before .each-below .ensures) ∙ c .if3 .taken)
 
 returns-4 : tie.Need-returns-4
-returns-4 c = 
+returns-4 c =
     let b = c .before .before .before in
     let p = b .before .before .before .before .before .before in
     name-missing _ _ _ (p .piece-end .result) (omega (arith, p .piece-end .ensures .0)) (search needs) (b .columns-of .result) (b .before .before .before .count-fields .result)

@@ -40,12 +40,12 @@ word-then-requires : tie.Need-word-then-requires Inv-loop μ-loop
 word-then-requires c κs = search needs
 
 returns : tie.Need-returns Inv-loop μ-loop
-returns c = 
+returns c =
     let b = c .before .before .before in
     sym (b .loop .inv .2 ∙ no-words-left _ _ (c .before .before .loop-test .taken) (sym (c .before .word-then .ensures) ∙ not-true _ (c .if1 .taken)))
 
 add-at : tie.Need-add-at Inv-loop μ-loop
-add-at c = 
+add-at c =
     let b = c .before .before .before in
     omega (arith, goes-on (b .before .before .args .text .now) (b .loop .at) (sym (c .before .word-then .ensures) ∙ not-false _ (c .if1 .left)))
 
@@ -56,7 +56,7 @@ loop-less : tie.Need-loop-less Inv-loop μ-loop
 loop-less c = search needs
 
 loop-again : tie.Need-loop-again Inv-loop μ-loop
-loop-again c = 
+loop-again c =
     let b = c .before .before .before in
     let t = b .before .before .args .text .now in
     let e = sym (c .before .word-then .ensures) ∙ not-false _ (c .if1 .left) in
@@ -66,7 +66,7 @@ word-then-requires-2 : tie.Need-word-then-requires-2 Inv-loop μ-loop
 word-then-requires-2 c κs = search needs
 
 returns-2 : tie.Need-returns-2 Inv-loop μ-loop
-returns-2 c = 
+returns-2 c =
     let b = c .before .before in
     let one : b .loop .left ≡ 1 = omega arith in
     c .word-then2 .ensures ∙ sym (b .loop .inv .2 ∙ ap (λ n. holdsWords n (lineAt (b .before .before .args .text .now) (b .loop .at))) one ∙ last-word _)

@@ -19,14 +19,14 @@ returns : tie.Need-returns
 returns c = sym (no-value _ _ _ _ (sym (c .before .holds-words .ensures) ∙ not-true _ (c .if1 .taken)))
 
 line-within-requires : tie.Need-line-within-requires
-line-within-requires c κs = 
+line-within-requires c κs =
     let a = c .before .before .before .before .args in
     let p = c .before .before .before .before .pre in
     let five = p .1 .1 (c .if2 .taken) in
     (subst (Columns _) five (p .1 .0), ap (λ n. holdsWords n (lineAt (a .text .now) (a .from))) (sym five) ∙ sym (c .before .before .holds-words .ensures) ∙ not-false _ (c .before .if1 .left))
 
 returns-2 : tie.Need-returns-2
-returns-2 c = 
+returns-2 c =
     let b = c .before .before .before .before in
     let p = b .before .before .pre in
     let five = p .1 .1 (c .before .before .if2 .taken) in
@@ -34,7 +34,7 @@ returns-2 c =
     ∙ ap (λ t. cond t 0 limitNumber) (ap (λ n. rowWithin (rowOf (take n (b .before .before .args .columns .now)) (lineAt (b .before .before .args .text .now) (b .before .before .args .from)))) five ∙ sym (c .before .line-within .ensures) ∙ not-true _ (c .if3 .taken)))
 
 returns-3 : tie.Need-returns-3
-returns-3 c = 
+returns-3 c =
     let b = c .before .before .before .before in
     let p = b .before .before .pre in
     let five = p .1 .1 (c .before .before .if2 .taken) in

@@ -35,7 +35,7 @@ same-requires : tie.Need-same-requires Inv-loop μ-loop
 same-requires c κs = search needs
 
 returns : tie.Need-returns Inv-loop μ-loop
-returns c = 
+returns c =
     let a = c .before .before .before .before .before .before .before .before .args in
     let b = c .before .before .before in
     let e = next-piece space (a .line .now) (b .before .before .loop .from) (b .piece-end .result) (b .before .loop-test .taken) (b .piece-end .ensures .0) in
@@ -51,14 +51,14 @@ loop-less : tie.Need-loop-less Inv-loop μ-loop
 loop-less c = search needs
 
 loop-again : tie.Need-loop-again Inv-loop μ-loop
-loop-again c = 
+loop-again c =
     let a = c .before .before .before .before .before .before .before .before .args in
     let b = c .before .before .before in
     let e = next-piece space (a .line .now) (b .before .before .loop .from) (b .piece-end .result) (b .before .loop-test .taken) (b .piece-end .ensures .0) in
     (search needs, search needs, omega (arith, ap (columnOf (a .name .now)) e, column-later (a .name .now) _ (rest space (a .line .now) (b .piece-end .result + 1)) (sym (c .before .same .ensures) ∙ c .if1 .left)))
 
 returns-2 : tie.Need-returns-2 Inv-loop μ-loop
-returns-2 c = 
+returns-2 c =
     let a = c .before .before .before .before .args in
     omega (arith, ap (columnOf (a .name .now)) (no-piece space (a .line .now) (c .before .loop .from) (c .loop-test .left)), no-column (a .name .now))
 

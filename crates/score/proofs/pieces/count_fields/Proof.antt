@@ -31,7 +31,7 @@ loop-less : tie.Need-loop-less Inv-loop μ-loop
 loop-less c = search needs
 
 loop-again : tie.Need-loop-again Inv-loop μ-loop
-loop-again c = 
+loop-again c =
     let l = c .before .before .before .before .args .line .now in
     let e = next-piece space l (c .before .before .loop .from) (c .piece-end .result) (c .before .loop-test .taken) (c .piece-end .ensures .0) in
     (search needs, search needs, omega (arith, ap length e))

@@ -1,7 +1,6 @@
 -- `score::reader::read` meets its contract: the tests in document 01's order, and the rows only after all of them.
 use mathlib.Core.Path.{_≡_, refl, sym, ap, _∙_}
 use mathlib.Core.Bool.{true}
-use Prim.Native.Nat.{ℕ, _<_}
 use native.Mathlib.Omega.{arith}
 use borrow.Author.Needs.{needs}
 use lib.Dec.{lit<, lit≤}
@@ -23,14 +22,14 @@ unfolding split
 read-names-requires c κs = lit≤ tt
 
 returns : tie.Need-returns
-returns c = 
+returns c =
     let a = c .before .before .before .before .before .args in
     let d = c .before .read-names .result in
     let h = score-names (a .text .now) d (c .before .read-names .ensures) in
     score-refused (a .text .now) (a .rows .now) namesNumber 0 (not-named scoreNames (a .text .now) d h true (c .if1 .taken))
 
 test-lines-requires : tie.Need-test-lines-requires
-test-lines-requires c κs = 
+test-lines-requires c κs =
     let a = c .before .before .before .before .before .before .before .args in
     let d = c .before .before .before .read-names .result in
     let h = score-names (a .text .now) d (c .before .before .before .read-names .ensures) in
@@ -43,21 +42,21 @@ enum-known-answer-2 : tie.Need-enum-known-answer-2
 enum-known-answer-2 c = search needs
 
 returns-2 : tie.Need-returns-2
-returns-2 c = 
+returns-2 c =
     let a = c .before .before .before .before .before .before .before .before .before .before .before .before .args in
     let d = c .before .before .before .before .before .before .before .before .read-names .result in
     let h = score-names (a .text .now) d (c .before .before .before .before .before .before .before .before .read-names .ensures) in
     no-rows (a .text .now) (a .rows .now) _ (named scoreNames (a .text .now) d h rowWords five-names (positive _ (c .before .before .before .before .before .before .before .if1 .left)) true ∙ (sym (c .before .before .before .before .test-lines .ensures) ∙ ap resultOf (c .before .before .answer2 .given .1))) (c .if2 .taken)
 
 returns-3 : tie.Need-returns-3
-returns-3 c = 
+returns-3 c =
     let a = c .before .before .before .before .before .before .before .before .before .before .before .before .before .args in
     let d = c .before .before .before .before .before .before .before .before .before .read-names .result in
     let h = score-names (a .text .now) d (c .before .before .before .before .before .before .before .before .before .read-names .ensures) in
     many-rows (a .text .now) (a .rows .now) _ (named scoreNames (a .text .now) d h rowWords five-names (positive _ (c .before .before .before .before .before .before .before .before .if1 .left)) true ∙ (sym (c .before .before .before .before .before .test-lines .ensures) ∙ ap resultOf (c .before .before .before .answer2 .given .1))) (c .if3 .taken)
 
 store-rows-requires : tie.Need-store-rows-requires
-store-rows-requires c κs = 
+store-rows-requires c κs =
     let a = c .before .before .before .before .before .before .before .before .before .before .before .before .before .before .before .args in
     let d = c .before .before .before .before .before .before .before .before .before .before .before .read-names .result in
     let h = score-names (a .text .now) d (c .before .before .before .before .before .before .before .before .before .before .before .read-names .ensures) in
@@ -65,7 +64,7 @@ store-rows-requires c κs =
     ((h .inside, lit≤ tt), (columns-named scoreNames (a .text .now) d h rowWords five-names p (lit< tt) (let e : length (d .columns) ≡ 6 = search needs in omega arith), passes-free _ _ _ _ _ (sym (c .before .before .before .before .before .before .before .test-lines .ensures) ∙ ap resultOf (c .before .before .before .before .before .answer2 .given .1))))
 
 returns-4 : tie.Need-returns-4
-returns-4 c = 
+returns-4 c =
     let a = c .before .before .before .before .before .before .before .before .before .before .before .args in
     let d = c .before .before .before .before .before .before .before .read-names .result in
     let h = score-names (a .text .now) d (c .before .before .before .before .before .before .before .read-names .ensures) in
@@ -75,7 +74,7 @@ same-length : tie.Need-same-length
 same-length c = search needs
 
 returns-5 : tie.Need-returns-5
-returns-5 c = 
+returns-5 c =
     let a = c .before .before .before .before .before .before .before .before .before .before .before .before .before .before .before .before .before .before .args in
     let d = c .before .before .before .before .before .before .before .before .before .before .before .before .before .before .read-names .result in
     let h = score-names (a .text .now) d (c .before .before .before .before .before .before .before .before .before .before .before .before .before .before .read-names .ensures) in

@@ -1,51 +1,72 @@
+-- `score::reader::read_edits` meets its contract, as `read` does its own.
+use mathlib.Core.Path.{_≡_, sym, ap, _∙_}
+use mathlib.Core.Bool.{false, false≢true}
+use native.Mathlib.Omega.{arith}
+use borrow.Author.Needs.{needs}
+use lib.Dec.{lit<, lit≤}
+use lib.ListN.{length}
+use Rattle.score.specs.Numbers.{resultOf, namesNumber}
+use Rattle.score.specs.Text.{split}
+use Rattle.score.specs.Reading.{store, editNames, editWords}
+use Rattle.score.proofs.Settling.{positive, not-named, named, rows-named, columns-named, edit-names, six-names, edits-refused, edits-stored}
 use borrow.Author.Needs.{needs}
 use Rattle.score.proofs.reader.read_edits.Statement.{statement}
 use Rattle.score.proofs.reader.read_edits.Tie as tie
-use Rattle.score.proofs.reader.read_edits.Reads as reads
-use Rattle.score.proofs.reader.read_edits.Lts as lts
-use Rattle.score.proofs.header.read_names.Reads as read-names-reads
-use Rattle.score.proofs.reader.store_rows.Reads as store-rows-reads
-use Rattle.score.proofs.reader.test_lines.Reads as test-lines-reads
 
--- src/reader.rt:123:35
 slice-aggregate-read-names : tie.Need-slice-aggregate-read-names
 slice-aggregate-read-names c = search needs
 
--- src/reader.rt:123:9
 read-names-requires : tie.Need-read-names-requires
-read-names-requires c κs = ?
+unfolding split
+read-names-requires c κs = lit≤ tt
 
--- src/reader.rt:126:9
 returns : tie.Need-returns
-returns c = ?
+returns c =
+    let a = c .before .before .before .before .before .args in
+    let d = c .before .read-names .result in
+    let h = edit-names (a .text .now) d (c .before .read-names .ensures) in
+    edits-refused (a .text .now) (a .edits .now) namesNumber 0 (not-named editNames (a .text .now) d h false (c .if1 .taken))
 
--- src/reader.rt:129:9
 test-lines-requires : tie.Need-test-lines-requires
-test-lines-requires c κs = ?
+test-lines-requires c κs =
+    let a = c .before .before .before .before .before .before .before .args in
+    let d = c .before .before .before .read-names .result in
+    let h = edit-names (a .text .now) d (c .before .before .before .read-names .ensures) in
+    (h .inside, (columns-named editNames (a .text .now) d h editWords six-names (positive _ (c .before .before .if1 .left)) (lit< tt) (let e : length (d .columns) ≡ 6 = search needs in omega arith), λ e. absurd (false≢true e)))
 
--- src/reader.rt:131:29
 enum-known-answer : tie.Need-enum-known-answer
 enum-known-answer c = search needs
 
--- src/reader.rt:132:26
 enum-known-answer-2 : tie.Need-enum-known-answer-2
 enum-known-answer-2 c = search needs
 
--- src/reader.rt:132:36
 store-rows-requires : tie.Need-store-rows-requires
-store-rows-requires c κs = ?
+store-rows-requires c κs =
+    let a = c .before .before .before .before .before .before .before .before .before .before .before .before .before .args in
+    let d = c .before .before .before .before .before .before .before .before .before .read-names .result in
+    let h = edit-names (a .text .now) d (c .before .before .before .before .before .before .before .before .before .read-names .ensures) in
+    let p = positive _ (c .before .before .before .before .before .before .before .before .if1 .left) in
+    ((h .inside, lit≤ tt), (columns-named editNames (a .text .now) d h editWords six-names p (lit< tt) (let e : length (d .columns) ≡ 6 = search needs in omega arith), (sym (c .before .before .before .before .before .test-lines .ensures) ∙ ap resultOf (c .before .before .before .answer2 .given .1))))
 
--- src/reader.rt:120:1
 returns-2 : tie.Need-returns-2
-returns-2 c = ?
+returns-2 c =
+    let a = c .before .before .before .before .before .before .before .before .before .before .before .args in
+    let d = c .before .before .before .before .before .before .before .read-names .result in
+    let h = edit-names (a .text .now) d (c .before .before .before .before .before .before .before .read-names .ensures) in
+    edits-refused (a .text .now) (a .edits .now) _ _ (named editNames (a .text .now) d h editWords six-names (positive _ (c .before .before .before .before .before .before .if1 .left)) false ∙ sym (c .before .before .before .test-lines .ensures) ∙ ap resultOf (c .before .answer .given .1))
 
--- src/reader.rt:120:1
 same-length : tie.Need-same-length
 same-length c = search needs
 
--- src/reader.rt:120:1
 returns-3 : tie.Need-returns-3
-returns-3 c = ?
+returns-3 c =
+    let a = c .before .before .before .before .before .before .before .before .before .before .before .before .before .before .before .before .args in
+    let d = c .before .before .before .before .before .before .before .before .before .before .before .before .read-names .result in
+    let h = edit-names (a .text .now) d (c .before .before .before .before .before .before .before .before .before .before .before .before .read-names .ensures) in
+    let p = positive _ (c .before .before .before .before .before .before .before .before .before .before .before .if1 .left) in
+    c .before .before .store-rows .ensures
+    ∙ ap (λ rows. store editWords (c .before .before .before .before .before .before .answer2 .given .0 .0) rows (a .edits .now)) (sym (rows-named editNames (a .text .now) d h editWords six-names p))
+    ∙ edits-stored (a .text .now) (a .edits .now) _ (named editNames (a .text .now) d h editWords six-names p false ∙ (sym (c .before .before .before .before .before .before .before .before .test-lines .ensures) ∙ ap resultOf (c .before .before .before .before .before .before .answer2 .given .1)))
 
 pub read-edits-spec : {M : Type 1} → statement M
 read-edits-spec =

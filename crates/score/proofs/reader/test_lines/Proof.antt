@@ -22,21 +22,21 @@ line-number-requires : tie.Need-line-number-requires Inv-loop μ-loop
 line-number-requires c κs = let p = c .before .before .before .pre in (search needs, (p .1 .0, p .1 .1))
 
 returns : tie.Need-returns Inv-loop μ-loop
-returns c = 
+returns c =
     let a = c .before .before .before .before .before .args in
     let p = c .before .before .before .before .before .pre in
     let l = c .before .before .before .loop in
     sym (l .inv .left ∙ line-refused (a .count) (take (a .count) (a .columns .now)) (a .limited) (a .text .now) (l .from) (l .at) (c .before .before .loop-test .taken) (λ e. c .if1 .taken (c .before .line-number .ensures ∙ e)) ∙ ap (λ n. refused n (l .at)) (sym (c .before .line-number .ensures)))
 
 mul-from : tie.Need-mul-from Inv-loop μ-loop
-mul-from c = 
+mul-from c =
     let a = c .before .before .before .before .before .args in
     let p = c .before .before .before .before .before .pre in
     let l = c .before .before .before .loop in
     omega (arith, line-fits (a .count) (take (a .count) (a .columns .now)) (a .limited) (a .text .now) (l .from) (l .at) (p .1 .0 .some) (sym (c .before .line-number .ensures) ∙ c .if1 .left) (l .inv .inside))
 
 add-from : tie.Need-add-from Inv-loop μ-loop
-add-from c = 
+add-from c =
     let a = c .before .before .before .before .before .args in
     let p = c .before .before .before .before .before .pre in
     let l = c .before .before .before .loop in
@@ -46,14 +46,14 @@ add-at : tie.Need-add-at Inv-loop μ-loop
 add-at c = search needs
 
 loop-less : tie.Need-loop-less Inv-loop μ-loop
-loop-less c = 
+loop-less c =
     let a = c .before .before .before .before .before .args in
     let p = c .before .before .before .before .before .pre in
     let l = c .before .before .before .loop in
     omega (arith, line-fits (a .count) (take (a .count) (a .columns .now)) (a .limited) (a .text .now) (l .from) (l .at) (p .1 .0 .some) (sym (c .before .line-number .ensures) ∙ c .if1 .left) (l .inv .inside), p .1 .0 .some)
 
 loop-again : tie.Need-loop-again Inv-loop μ-loop
-loop-again c = 
+loop-again c =
     let a = c .before .before .before .before .before .args in
     let p = c .before .before .before .before .before .pre in
     let l = c .before .before .before .loop in

@@ -17,13 +17,13 @@ abbrev μ-loop : tie.MeasureT-loop
 μ-loop text next columns count lines rows₀ from₀ base₀ k₀ rows from base k = lines - k
 
 loop-holds : tie.Need-loop-holds Inv-loop μ-loop
-loop-holds c = 
+loop-holds c =
     let a = c .before .before .args in
     let p = c .before .before .pre in
     stores (a .count) (take (a .count) (a .columns .now)) (a .text .now) (a .next) (a .lines) (a .rows .now) (p .1 .1 .1) (p .1 .0 .some) (p .0 .0) (p .1 .1 .0)
 
 add-end : tie.Need-add-end Inv-loop μ-loop
-add-end c = 
+add-end c =
     let a = c .before .before .before .before .args in
     let p = c .before .before .before .before .pre in
     let l = c .before .loop in
@@ -43,7 +43,7 @@ part-write-row-start : tie.Need-part-write-row-start Inv-loop μ-loop
 part-write-row-start c = search needs
 
 part-write-row-end : tie.Need-part-write-row-end Inv-loop μ-loop
-part-write-row-end c = 
+part-write-row-end c =
     let a = c .before .before .before .before .args in
     let p = c .before .before .before .before .pre in
     let l = c .before .loop in
@@ -57,14 +57,14 @@ write-row-requires c κs =
     rw (part-long (a .count) (take (a .count) (a .columns .now)) (a .text .now) (a .next) (a .lines) (a .rows .now) (p .1 .1 .1) (p .1 .0 .some) (l .rows) (l .from) (l .base) (l .k) (l .inv) (c .before .loop-test .taken)) (p .1 .0, (words-there (a .count) (take (a .count) (a .columns .now)) (a .text .now) (a .next) (a .lines) (a .rows .now) (p .1 .1 .1) (p .1 .0 .some) (l .rows) (l .from) (l .base) (l .k) (l .inv) (c .before .loop-test .taken), p .0 .1))
 
 mul-from : tie.Need-mul-from Inv-loop μ-loop
-mul-from c = 
+mul-from c =
     let a = c .before .before .before .before .before .before .before .before .args in
     let p = c .before .before .before .before .before .before .before .before .pre in
     let l = c .before .before .before .before .before .loop in
     omega (arith, next-fits (a .count) (take (a .count) (a .columns .now)) (a .text .now) (a .next) (a .lines) (a .rows .now) (p .1 .1 .1) (p .1 .0 .some) (l .rows) (l .from) (l .base) (l .k) (l .inv) (c .before .before .before .before .loop-test .taken))
 
 add-from : tie.Need-add-from Inv-loop μ-loop
-add-from c = 
+add-from c =
     let a = c .before .before .before .before .before .before .before .before .args in
     let p = c .before .before .before .before .before .before .before .before .pre in
     let l = c .before .before .before .before .before .loop in
@@ -90,7 +90,7 @@ same-length : tie.Need-same-length Inv-loop μ-loop
 same-length c = c .before .loop .inv .long
 
 returns : tie.Need-returns Inv-loop μ-loop
-returns c = 
+returns c =
     let a = c .before .before .before .before .args in
     let p = c .before .before .before .before .pre in
     let l = c .before .loop in

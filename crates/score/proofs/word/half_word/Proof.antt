@@ -56,11 +56,10 @@ add-result-3 : tie.Need-add-result-3
 add-result-3 c = search needs
 
 returns : tie.Need-returns
-returns c = 
-    let b = c .before .before .before .before .before .before .before .before .before in
-    (
+returns c =
+    let b = c .before .before .before .before .before .before .before .before .before in (
       rw (c .digit4 .ensures .0, c .before .before .digit3 .ensures .0, c .before .before .before .before .digit2 .ensures .0, c .before .before .before .before .before .before .digit .ensures .0) (four-value (b .args .text .now) (b .args .at) (b .pre .0)),
-      search needs
+      search needs,
     )
 
 pub half-word-spec : {M : Type 1} → statement M

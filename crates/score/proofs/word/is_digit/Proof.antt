@@ -1,7 +1,6 @@
 -- `score::word::is_digit` meets its contract, which is its code.
 use mathlib.Core.Path.{refl}
 use Rattle.score.specs.Text.{isDigit}
-use borrow.Author.Needs.{needs}
 use Rattle.score.proofs.word.is_digit.Statement.{statement}
 use Rattle.score.proofs.word.is_digit.Tie as tie
 

@@ -74,7 +74,7 @@ is-digit-requires-8 : tie.Need-is-digit-requires-8
 is-digit-requires-8 c κs = search needs
 
 returns : tie.Need-returns
-returns c = 
+returns c =
     let a = c .before .before .before .before .before .before .before .before .before .before .before .before .before .before .before .before .before .args in
     rw (c .is-digit8 .ensures, c .before .before .is-digit7 .ensures, c .before .before .before .before .is-digit6 .ensures, c .before .before .before .before .before .before .is-digit5 .ensures, c .before .before .before .before .before .before .before .before .is-digit4 .ensures, c .before .before .before .before .before .before .before .before .before .before .is-digit3 .ensures, c .before .before .before .before .before .before .before .before .before .before .before .before .is-digit2 .ensures, c .before .before .before .before .before .before .before .before .before .before .before .before .before .before .is-digit .ensures)
     (word-by-digits (a .text .now) (a .at) (c .before .before .before .before .before .before .before .before .before .before .before .before .before .before .before .before .before .pre))
