@@ -5,13 +5,13 @@ use mathlib.Core.Bool.{Bool, true, false, cond}
 use Prim.Native.Nat.{ℕ, zero, suc, _+_, _-_, _*_, _≤_, _<_}
 use native.Mathlib.Omega.{arith}
 use borrow.Author.Tests.{eq-eqb, ne-eqb, ltb-true}
-use lib.Dec.{eqb, ltb}
+use lib.Dec.{ltb}
 use lib.ListN.{length}
-use Rattle.voice.specs.Voice.{Lent}
 use Rattle.score.specs.Limits.{rowWords}
-use Rattle.take.specs.declared.Refusal.{Refusal}
+use Rattle.take.specs.declared.refusal.Refusal.{Refusal}
 use Rattle.take.specs.declared.Answer.the-variants.{Done, Refused}
-use Rattle.take.specs.Take.{Settings, Take, Run, counted, outcome, ran, idle, rowCount, rowAt, putRow, same, runOf, atEnd, atStop, lentNumber, limitRefusal, scoreRefusal, refusalOf, renderRefusal, editRefusal, renderOf, editOf, Fit}
+use Rattle.take.specs.Take.{Settings, Take, Run, counted, outcome, ran, rowCount, rowAt, putRow, same, runOf, atEnd, atStop, lentNumber, positionNumber, limitRefusal, scoreRefusal, refusalOf, renderRefusal, editRefusal, renderOf, editOf}
+use Rattle.take.specs.Rooms.{Fit}
 use Rattle.take.proofs.Limits.{put-long}
 use Rattle.take.proofs.Refusals.{Right, right}
 
@@ -27,7 +27,7 @@ pub score-none : (rows : List ℕ) (k : ℕ) (row : List ℕ) → scoreRefusal r
 unfolding scoreRefusal
 score-none rows k row e = go (ltb k (rowCount rows)) (ltb-true k (rowCount rows)) e
   where
-    go : (b : Bool) → (b ≡ true → k < rowCount rows) → cond b (limitRefusal (putRow rows k row)) (record { number = 8; place = k }) .number ≡ 0 → k < rowCount rows
+    go : (b : Bool) → (b ≡ true → k < rowCount rows) → cond b (limitRefusal (putRow rows k row)) (record { number = positionNumber; place = k }) .number ≡ 0 → k < rowCount rows
     go true f e = f refl
     go false f e = absurd (omega arith)
 

@@ -1,18 +1,17 @@
 -- Rows that stand as made, from row 0 on, are the fresh rendering's: by induction each starts from the words that the fresh one keeps.
 use mathlib.Core.Path.{_≡_, refl, sym, ap, _∙_}
-use mathlib.Core.List.{List, [], _∷_}
-use Prim.Native.Nat.{ℕ, zero, suc, _+_, _-_, _*_, _≤_, _<_}
+use mathlib.Core.List.{List}
+use Prim.Native.Nat.{ℕ, zero, suc, _+_, _-_, _≤_, _<_}
 use native.Mathlib.Nat.{add-zero, zero-add}
-use native.Mathlib.Numerals.{add-one}
 use native.Mathlib.Omega.{arith}
-use lib.ListN.{length, take, drop, getD}
+use lib.ListN.{length, getD}
 use lib.Seq.{drop-cons, take-all}
 use Rattle.voice.specs.declared.State.{State}
 use Rattle.voice.specs.Voice.{freshState, stateOf}
-use Rattle.take.specs.Take.{Settings, Take, lent, Row, keptAt, keptBefore, rowCount, rowOf, rowIn, a0Of}
-use Rattle.take.specs.Retakes.{freshFrom, fresh, takeOf, heldOf, heldOver, noRow, keptIn}
+use Rattle.take.specs.Take.{Settings, Take, lent, Row, keptCount, keptAt, keptBefore, rowCount, rowOf, rowIn, a0Of}
+use Rattle.take.specs.Retakes.{freshFrom, fresh, takeOf, heldOf, heldOver, noRow}
 use Rattle.take.proofs.Parts.{parts-joined}
-use Rattle.take.proofs.Standing.{wordsAt, Sized, Made, Standing, row-first}
+use Rattle.take.proofs.Standing.{wordsAt, Made, Standing, row-first}
 
 module _ (s : Settings) (rows : List ℕ) where
   pub fresh-long : (l i : ℕ) (st : State) → length (freshFrom s rows l i st) ≡ l
@@ -52,7 +51,7 @@ module _ (s : Settings) (rows : List ℕ) where
       let row : (i : ℕ) → i < length (fresh s rows) → wordsAt (s .frames) t i ≡ getD (fresh s rows) i noRow .words = λ i h. standing-fresh t (rowCount rows) b g i (omega arith) (omega arith) in
       let out : t .out ≡ takeOf (fresh s rows) .out = parts-joined (s .frames) (λ (w : Take). w .out) (fresh s rows) (t .out) (rw n (g .sized .out-long)) (λ i h. ap (λ (w : Take). w .out) (row i h)) in
       let aux : t .aux ≡ takeOf (fresh s rows) .aux = parts-joined (s .frames) (λ (w : Take). w .aux) (fresh s rows) (t .aux) (rw n (g .sized .aux-long)) (λ i h. ap (λ (w : Take). w .aux) (row i h)) in
-      let kept : t .kept ≡ takeOf (fresh s rows) .kept = parts-joined 13 (λ (w : Take). w .kept) (fresh s rows) (t .kept) (rw n (g .sized .kept-long)) (λ i h. ap (λ (w : Take). w .kept) (row i h)) in
+      let kept : t .kept ≡ takeOf (fresh s rows) .kept = parts-joined keptCount (λ (w : Take). w .kept) (fresh s rows) (t .kept) (rw n (g .sized .kept-long)) (λ i h. ap (λ (w : Take). w .kept) (row i h)) in
       ap (λ (x : List ℕ). lent x (t .aux) (t .kept)) out ∙ ap (λ (x : List ℕ). lent (takeOf (fresh s rows) .out) x (t .kept)) aux ∙ ap (λ (x : List ℕ). lent (takeOf (fresh s rows) .out) (takeOf (fresh s rows) .aux) x) kept
 
 -- ---- `held` over rows.

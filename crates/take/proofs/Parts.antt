@@ -3,11 +3,11 @@ use mathlib.Core.Path.{_≡_, refl, sym, ap, _∙_}
 use mathlib.Core.List.{List, [], _∷_, _++_}
 use mathlib.Core.Logic.{_⊎_, inl, inr}
 use Prim.Native.Nat.{ℕ, zero, suc, _+_, _-_, _*_, _≤_, _<_}
-use native.Mathlib.Nat.{suc-mul, zero-mul, mul-le-mul-right, le-refl}
+use native.Mathlib.Nat.{suc-mul, zero-mul, mul-le-mul-right}
 use native.Mathlib.Numerals.{add-one}
 use native.Mathlib.Omega.{arith}
-use lib.ListN.{length, take, drop, getD, length-append, length-take, length-drop, take-append-drop}
-use lib.Seq.{length-take-le, take-take, take-at, drop-at, drop-drop, take-append-le, drop-append-le}
+use lib.ListN.{length, take, drop, getD, length-append, length-drop, take-append-drop}
+use lib.Seq.{length-take-le, take-take, take-at, drop-at, drop-drop}
 use Rattle.take.specs.Take.{Take, Row, part, put}
 use Rattle.take.specs.Retakes.{Outside, joined, noRow}
 use Rattle.take.proofs.Limits.{empty}

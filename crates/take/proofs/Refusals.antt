@@ -1,17 +1,17 @@
 -- The refusals: what each test says of the definitions, and what holds of the lengths where none of 1 to 7 is refused.
-use mathlib.Core.Path.{_≡_, refl, sym, ap, _∙_}
+use mathlib.Core.Path.{_≡_, refl, sym}
 use mathlib.Core.List.{List}
-use mathlib.Core.Bool.{Bool, true, false, cond, not, _||_, true≢false, false≢true}
+use mathlib.Core.Bool.{Bool, true, false, cond, not, _||_, true≢false}
 use mathlib.Core.Logic.{_⊎_, inl, inr}
-use Prim.Native.Nat.{ℕ, zero, suc, _+_, _-_, _*_, _/_, _%_, _≤_, _<_}
+use Prim.Native.Nat.{ℕ, zero, suc, _*_, _/_, _%_, _≤_, _<_}
 use native.Mathlib.Omega.{arith}
 use borrow.Author.Tests.{eq-eqb, ne-eqb, eqb-true, eqb-false, ltb-false, lt-ltb, le-ltb}
-use lib.Dec.{eqb, ltb}
+use lib.Dec.{eqb}
 use lib.ListN.{length}
 use Rattle.voice.specs.Voice.{Lent}
 use Rattle.score.specs.Limits.{rowWords, firstBad}
-use Rattle.take.specs.declared.Refusal.{Refusal}
-use Rattle.take.specs.Take.{Settings, Take, rowCount, putRow, terrainWithMap, mapLength, mapLengthOf, wrongInstrument, wrongRate, wrongBlock, wrongBank, wrongMap, wrongRows, wrongTake, settingsNumber, lengthsNumber, lentNumber, accepted, limitNumber, positionNumber, limitRefusal, scoreRefusal, refusalOf, renderRefusal, editRefusal, mostFrames, Fit}
+use Rattle.take.specs.Take.{Settings, Take, rowCount, putRow, terrainWithMap, mapLength, mapLengthOf, wrongInstrument, wrongRate, wrongBlock, wrongBank, wrongMap, wrongRows, wrongTake, settingsNumber, lengthsNumber, lentNumber, accepted, limitNumber, positionNumber, limitRefusal, scoreRefusal, refusalOf, renderRefusal, editRefusal, mostFrames, mostRows, keptCount, bankLength}
+use Rattle.take.specs.Rooms.{Fit}
 use Rattle.take.proofs.Limits.{put-count}
 
 -- ---- No number: no test holds.
@@ -31,7 +31,7 @@ not-not false e = absurd (true≢false e)
 pub record SettingsRight (instrument frames bank map : ℕ) : Type 0 where
   pub frames-some : 0 < frames
   pub frames-most : frames ≤ mostFrames
-  pub bank-long : bank ≡ 25344
+  pub bank-long : bank ≡ bankLength
   pub map-long : map ≡ mapLengthOf instrument
 
 pub settings-right : (instrument rate frames bank map : ℕ) → settingsNumber instrument rate frames bank map ≡ 0 → SettingsRight instrument frames bank map
@@ -47,37 +47,39 @@ settings-right instrument rate frames bank map e =
     record {
       frames-some = omega (arith, some);
       frames-most = ltb-false mostFrames frames (g .1);
-      bank-long = eqb-true bank 25344 (not-not _ (d .0));
+      bank-long = eqb-true bank bankLength (not-not _ (d .0));
       map-long = eqb-true map (mapLengthOf instrument) (not-not _ (f .0));
     }
 
 pub record LengthsRight (frames rows out aux kept : ℕ) : Type 0 where
   pub rows-some : 0 < rows / rowWords
-  pub rows-most : rows / rowWords ≤ 4096
+  pub rows-most : rows / rowWords ≤ mostRows
   pub rows-long : rows ≡ rows / rowWords * rowWords
   pub out-long : out ≡ rows / rowWords * frames
   pub aux-long : aux ≡ rows / rowWords * frames
-  pub kept-long : kept ≡ rows / rowWords * 13
+  pub kept-long : kept ≡ rows / rowWords * keptCount
 
 pub lengths-right : (frames rows out aux kept : ℕ) → lengthsNumber frames rows out aux kept ≡ 0 → LengthsRight frames rows out aux kept
 unfolding lengthsNumber
 lengths-right frames rows out aux kept e =
     let n : ℕ = rows / rowWords in
     let a = passed (wrongRows rows) 5 _ e in
-    let b = passed (wrongTake n frames out aux kept) 6 _ (a .1) in
     let c = neither _ _ (a .0) in
     let d = neither _ _ (c .1) in
-    let f = neither _ _ (b .0) in
-    let g = neither _ _ (f .1) in
     let whole : rows % rowWords ≡ 0 = eqb-true (rows % rowWords) 0 (not-not _ (c .0)) in
     let some : n ≡ 0 → ⊥ = eqb-false n 0 (d .0) in
+    let above : 0 < n = omega (arith, some) in
+    let long : rows ≡ n * rowWords = omega arith in
+    let b = passed (wrongTake n frames out aux kept) 6 _ (a .1) in
+    let f = neither _ _ (b .0) in
+    let g = neither _ _ (f .1) in
     record {
-      rows-some = omega (arith, some);
-      rows-most = ltb-false 4096 n (d .1);
-      rows-long = omega arith;
+      rows-some = above;
+      rows-most = ltb-false mostRows n (d .1);
+      rows-long = long;
       out-long = eqb-true out (n * frames) (not-not _ (f .0));
       aux-long = eqb-true aux (n * frames) (not-not _ (g .0));
-      kept-long = eqb-true kept (n * 13) (not-not _ (g .1));
+      kept-long = eqb-true kept (n * keptCount) (not-not _ (g .1));
     }
 
 -- ---- What a run may count on.

@@ -2,26 +2,24 @@
 -- keeps that up and does what it should, and a take that stands so is the fresh rendering's.
 use mathlib.Core.Path.{_≡_, refl, sym, ap, _∙_, subst}
 use mathlib.Core.List.{List, [], _∷_}
-use mathlib.Core.Bool.{Bool, true, false, cond, true≢false, false≢true}
+use mathlib.Core.Bool.{Bool, true, false, cond, true≢false}
 use mathlib.Core.Logic.{_⊎_, inl, inr}
-use Prim.Native.Nat.{ℕ, zero, suc, _+_, _-_, _*_, _≤_, _<_}
-use native.Mathlib.Nat.{le-refl}
+use Prim.Native.Nat.{ℕ, suc, _+_, _-_, _*_, _≤_, _<_}
 use native.Mathlib.Omega.{arith}
 use borrow.Author.Tests.{eq-eqb, ne-eqb, eqb-true, eqb-false, ltb-true, ltb-false}
 use lib.Dec.{eqb, ltb}
 use lib.ListN.{length, take, drop, take-append-drop}
 use Rattle.voice.specs.declared.State.{State}
 use Rattle.score.specs.Limits.{rowWords}
-use Rattle.take.specs.declared.Refusal.{Refusal}
-use Rattle.take.specs.declared.Answer.the-variants.{Done, Refused}
-use Rattle.take.specs.Take.{Settings, Take, Row, Run, Outcome, counted, ran, idle, outcome, refusedBy, rowCount, rowAt, put, keptAt, same, rowOf, rowIn, runOf, atEnd, atStop, stopsOf, lentNumber, limitRefusal, scoreRefusal, refusalOf, renderRefusal, editRefusal, done, refused, resultOf, renderOf, editOf, Fit}
-use Rattle.take.specs.Retakes.{fresh, takeOf, heldOf, heldOver, keptIn, noRow, Edit, withRow, scoreOne, scoreAfter, edited, after, Outside, Stops, First, Retaken, Untouched, Right, EachRight, Promise, Demand3}
+use Rattle.take.specs.declared.refusal.Refusal.{Refusal}
+use Rattle.take.specs.Take.{Settings, Take, Row, Run, Outcome, ran, idle, refusedBy, rowCount, rowAt, put, same, rowOf, runOf, atEnd, atStop, stopsOf, lentNumber, limitRefusal, scoreRefusal, refusalOf, renderRefusal, editRefusal, resultOf, renderOf, editOf}
+use Rattle.take.specs.Retakes.{fresh, takeOf, keptIn, Edit, withRow, scoreOne, scoreAfter, edited, after, Outside, Stops, First, Right, EachRight, Demand3}
 use Rattle.take.proofs.Words.{same-eq, same-refl}
 use Rattle.take.proofs.Limits.{put-long, put-count}
 use Rattle.take.proofs.Refusals.{right}
 use Rattle.take.proofs.Calls.{refusal-none, score-none}
 use Rattle.take.proofs.Parts.{put-outside, part-outside}
-use Rattle.take.proofs.Standing.{Sized, Made, Standing, wordsAt}
+use Rattle.take.proofs.Standing.{Sized, Made, Standing}
 use Rattle.take.proofs.FreshRows.{fresh-at, all-fresh, held-all}
 use Rattle.take.proofs.Retaking.{Rendered, render-stands, Retook, KeepsOld, retake-stands}
 

@@ -2,17 +2,16 @@
 -- first row that the two fresh renderings name.
 use mathlib.Core.Path.{_≡_, refl, sym, ap, _∙_, subst}
 use mathlib.Core.List.{List}
-use mathlib.Core.Bool.{Bool, true, false, cond, _||_, true≢false}
+use mathlib.Core.Bool.{Bool, true, false, cond}
 use mathlib.Core.Logic.{_⊎_, inl, inr}
-use Prim.Native.Nat.{ℕ, zero, suc, _+_, _-_, _*_, _≤_, _<_}
-use native.Mathlib.Nat.{add-zero, eq-or-lt-of-le, le-refl}
+use Prim.Native.Nat.{ℕ, zero, suc, _+_, _-_, _≤_, _<_}
+use native.Mathlib.Nat.{eq-or-lt-of-le, le-refl}
 use native.Mathlib.Omega.{arith}
-use borrow.Author.Tests.{eq-eqb, ne-eqb, eqb-true, eqb-false}
-use lib.Dec.{eqb}
+use borrow.Author.Tests.{eq-eqb, ne-eqb}
 use lib.ListN.{length, getD}
-use Rattle.take.specs.Take.{Settings, Take, Row, Run, counted, plus, idle, keptAt, rowCount, rowAt, restarts, same, rowIn, runOf, atEnd, atStop, stopsOf}
+use Rattle.take.specs.Take.{Settings, Take, Row, Run, plus, idle, keptAt, rowCount, same, rowIn, runOf, atEnd, atStop, stopsOf}
 use Rattle.take.specs.Retakes.{fresh, noRow, keptIn, heldOver}
-use Rattle.take.proofs.Standing.{Made, Standing, made, next, Elsewhere, elsewhere-then, next-elsewhere, next-kept, goes-on, settles}
+use Rattle.take.proofs.Standing.{Standing, made, next, Elsewhere, elsewhere-then, next-elsewhere, next-kept, goes-on, settles}
 use Rattle.take.proofs.FreshRows.{fresh-long, fresh-at, held-none, held-next}
 
 module _ (s : Settings) (rows : List ℕ) where

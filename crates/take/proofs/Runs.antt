@@ -1,16 +1,16 @@
 -- A run over the rows, by what is left to do: rendering a row and going on is the definition's next step.
-use mathlib.Core.Path.{_≡_, refl, sym, ap, _∙_}
+use mathlib.Core.Path.{_≡_, refl, sym, _∙_}
 use mathlib.Core.List.{List}
-use mathlib.Core.Bool.{Bool, true, false, cond, not, _&&_, _||_, true≢false, false≢true}
-use Prim.Native.Nat.{ℕ, zero, suc, _+_, _-_, _*_, _≤_, _<_, zero-le}
-use native.Mathlib.Nat.{add-zero, zero-add, le-refl, add-assoc, mul-le-mul-right, suc-mul}
-use native.Mathlib.Numerals.{add-one}
+use mathlib.Core.Bool.{Bool, true, false, cond, true≢false}
+use Prim.Native.Nat.{ℕ, suc, _+_, _-_, _*_, _≤_, _<_, zero-le}
+use native.Mathlib.Nat.{add-zero, zero-add, le-refl, add-assoc}
 use native.Mathlib.Omega.{arith}
-use borrow.Author.Tests.{eqb-true, eqb-false, eq-eqb, ne-eqb}
+use borrow.Author.Tests.{eq-eqb}
 use lib.Dec.{eqb}
 use lib.ListN.{length}
-use Rattle.score.specs.Limits.{rowWords}
-use Rattle.take.specs.Take.{Settings, Take, Row, Run, counted, plus, idle, putWords, rowAt, keptAt, same, restarts, rowIn, runOf, endOf, stopsOf, mostHeld, mostRows, mostFrames, keptCount, BlockRoom, Room, Fit, RowDone}
+use Rattle.take.specs.Take.{Settings, Take, Row, Run, counted, plus, idle, keptAt, same, rowIn, runOf, endOf, stopsOf, mostFrames}
+use Rattle.take.specs.Rooms.{mostHeld, Room, Fit, RowDone}
+use Rattle.take.proofs.Parts.{row-end}
 
 plus-zero : (r : Run) → plus 0 0 r ≡ r
 plus-zero r = rw (zero-add (r .rows), zero-add (r .held))
@@ -19,9 +19,6 @@ plus-plus : (a b c d : ℕ) (r : Run) → plus a b (plus c d r) ≡ plus (a + c)
 plus-plus a b c d r = rw (add-assoc a c (r .rows), add-assoc b d (r .held))
 
 -- ---- A row within a take.
-
-pub row-end : (k n f : ℕ) → k < n → k * f + f ≤ n * f
-row-end k n f h = rw (suc-mul k f) at (mul-le-mul-right f h)
 
 pub room : (frames n k : ℕ) (rows out₀ aux₀ kept₀ out aux kept : List ℕ) → Fit frames n rows out₀ aux₀ kept₀ → k < n
     → length out ≡ length out₀ → length aux ≡ length aux₀ → length kept ≡ length kept₀ → Room frames k rows out aux kept
@@ -48,7 +45,7 @@ pub record Running (whole : Bool) (s : Settings) (rows : List ℕ) (n first : �
   pub out-long : length (t .out) ≡ length (t₀ .out)
   pub aux-long : length (t .aux) ≡ length (t₀ .aux)
   pub kept-long : length (t .kept) ≡ length (t₀ .kept)
-  pub few : held ≤ k * 512
+  pub few : held ≤ k * (mostHeld * mostFrames)
   pub is : (l : ℕ) → k + l ≡ n → plus (k - first) held (runOf (endOf whole n rows) s rows l k t) ≡ runOf (endOf whole n rows) s rows (n - first) first t₀
 
 module _ (whole : Bool) (s : Settings) (rows : List ℕ) (n first : ℕ) where

@@ -1,19 +1,19 @@
 -- The invariant behind demand 3: of a take it says that rows before a and rows from b on stand as made from the words that the take itself
 -- keeps before them. Rendering row a carries it on, by the row's own law: it changes no row but a, and no start but that of row a + 1.
 use mathlib.Core.Path.{_≡_, refl, sym, ap, _∙_, subst}
-use mathlib.Core.List.{List, [], _∷_}
-use mathlib.Core.Bool.{Bool, true, false, cond, _||_, true≢false, false≢true}
+use mathlib.Core.List.{List}
+use mathlib.Core.Bool.{Bool, true, false, cond, _||_}
 use mathlib.Core.Logic.{_⊎_, inl, inr}
 use Prim.Native.Nat.{ℕ, zero, suc, _+_, _-_, _*_, _≤_, _<_}
 use native.Mathlib.Omega.{arith}
 use native.Mathlib.Nat.{eq-or-lt-of-le}
-use borrow.Author.Tests.{eqb-true, eq-eqb}
+use borrow.Author.Tests.{eqb-true}
 use lib.Dec.{eqb}
 use lib.ListN.{length}
 use Rattle.voice.specs.declared.State.{State}
 use Rattle.voice.specs.Voice.{stateOf}
 use Rattle.voice.proofs.Laws as voice
-use Rattle.take.specs.Take.{Settings, Take, lent, Row, part, put, putWords, keptCount, keptAt, keptBefore, same, rowAt, restarts, startOf, rowFrom, rowOf, rowIn, stopsOf}
+use Rattle.take.specs.Take.{Settings, Take, lent, Row, part, putWords, keptCount, keptAt, keptBefore, same, rowAt, restarts, startOf, rowFrom, rowOf, rowIn, stopsOf}
 use Rattle.take.specs.Retakes.{Outside}
 use Rattle.take.proofs.Words.{same-eq}
 use Rattle.take.proofs.Parts.{put-part, put-outside, put-long, part-outside, outside-then}

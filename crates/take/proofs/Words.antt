@@ -2,16 +2,14 @@
 use mathlib.Core.Path.{_≡_, refl, sym, ap, _∙_}
 use mathlib.Core.List.{List, [], _∷_, _++_, append-nil}
 use mathlib.Core.Bool.{Bool, true, false, _&&_, false≢true}
-use mathlib.Core.Logic.{_⊎_, inl, inr}
-use Prim.Native.Nat.{ℕ, zero, suc, _+_, _-_, _*_, _≤_, _<_, zero-le}
-use native.Mathlib.Nat.{suc-mul, mul-le-mul-right}
+use Prim.Native.Nat.{ℕ, suc, _+_, _-_, _≤_, _<_, zero-le}
 use native.Mathlib.Numerals.{add-one}
 use native.Mathlib.Omega.{arith}
-use borrow.Author.Tests.{eq-eqb, ne-eqb, eqb-true}
+use borrow.Author.Tests.{eq-eqb, eqb-true}
 use lib.Dec.{eqb}
-use lib.ListN.{length, take, drop, set, getD, length-set, length-take, length-drop, length-append, drop-of-length-le, take-append-drop}
-use lib.Seq.{take-suc, drop-cons, set-at, length-take-le, append-snoc, take-all, take-take, take-at, drop-at, drop-drop}
-use Rattle.take.specs.Take.{part, put, same}
+use lib.ListN.{length, take, drop, set, getD, length-set, length-take, length-drop, drop-of-length-le}
+use lib.Seq.{take-suc, drop-cons, set-at, length-take-le, append-snoc, take-all}
+use Rattle.take.specs.Take.{put, same}
 
 -- ---- Comparing.
 
@@ -31,11 +29,11 @@ module _ (old new : List ℕ) (i : ℕ) (e : length old ≡ length new) (h : i <
       let d' : drop i new ≡ getD new i 0 ∷ drop (suc i) new = drop-cons new i 0 (omega arith) in
       rw (d, d') at (a .rest)
 
-  pub alike-more : getD old i 0 ≡ getD new i 0 → Alike old new (i + 1)
-  alike-more q = record { at = omega arith; rest = rw add-one (rw (eq-eqb (getD old i 0) (getD new i 0) q) at next) }
+  pub alike-more : eqb (getD old i 0) (getD new i 0) ≡ true → Alike old new (i + 1)
+  alike-more q = record { at = omega arith; rest = rw add-one (rw q at next) }
 
-  pub alike-not : (getD old i 0 ≡ getD new i 0 → ⊥) → false ≡ same old new
-  alike-not q = rw (ne-eqb (getD old i 0) (getD new i 0) q) at next
+  pub alike-not : eqb (getD old i 0) (getD new i 0) ≡ false → false ≡ same old new
+  alike-not q = rw q at next
 
 pub alike-all : (old new : List ℕ) (i : ℕ) → length old ≡ length new → length old ≤ i → Alike old new i → true ≡ same old new
 unfolding same

@@ -1,6 +1,6 @@
 -- Demand 3: what is promised of an accepted whole rendering and of every list of row edits after it. The calls are `renderOf` and
 -- `editOf` of `Take`, to which the code is proved equal. Below: fresh rendering, lists of edits, what one edit does, and the claim, `Demand3`.
-use Prim.Native.Nat.{ℕ, zero, suc, _+_, _-_, _*_, _≤_, _<_}
+use Prim.Native.Nat.{ℕ, zero, suc, _+_, _-_, _*_, _<_}
 use mathlib.Core.List.{List, [], _∷_, _++_}
 use mathlib.Core.Bool.{Bool, true, false, cond}
 use mathlib.Core.Path.{_≡_}

@@ -1,7 +1,6 @@
 -- Document 01, "Rows, states, retakes" and "Calls and their numbers": what whole rendering and an edit of a row answer, and what they
 -- leave in each lent buffer, as functions on lists of words.
-use Prim.Native.Nat.{ℕ, zero, suc, _+_, _-_, _*_, _/_, _%_, _≤_, _<_}
-use mathlib.Core.Path.{_≡_}
+use Prim.Native.Nat.{ℕ, zero, suc, _+_, _-_, _*_, _/_, _%_}
 use mathlib.Core.List.{List, [], _∷_, _++_}
 use mathlib.Core.Bool.{Bool, true, false, cond, not, _&&_, _||_}
 use lib.Dec.{eqb, ltb}
@@ -13,7 +12,7 @@ use Rattle.utils.specs.declared.engine.EngineParameters.{EngineParameters}
 use Rattle.voice.specs.declared.State.{State}
 use Rattle.voice.specs.Voice.{freshState, keptWords, stateOf, blockOf}
 use Rattle.score.specs.Limits.{rowWords, place, note, timbre, morph, harmonics, restart, firstBad}
-use Rattle.take.specs.declared.Refusal.{Refusal}
+use Rattle.take.specs.declared.refusal.Refusal.{Refusal}
 use Rattle.take.specs.declared.Answer.{Answer}
 use Rattle.take.specs.declared.Answer.the-variants.{Done, Refused}
 
@@ -304,7 +303,7 @@ editRefusal s rows k row t = refusalOf (lentNumber s rows t) (scoreRefusal rows 
 
 -- ---- The calls.
 
--- This paper's number and values for each case of an answer; success has number 0.
+-- Document 01's number and values for each case of an answer; success has number 0.
 pub record Result : Type 0 where
   pub number : ℕ
   pub first : ℕ
@@ -353,40 +352,3 @@ editOf s rows k row t =
     cond (eqb (r .number) 0)
     (cond (same (rowAt rows k) row) (ran rows (idle t)) (ran rows' (runOf (atStop n rows') s rows' (n - k) k t)))
     (refusedBy r rows t)
-
--- ---- What a function below the calls may count on.
-
--- Row k's block lies within the lent words.
-pub record BlockRoom (frames k : ℕ) (out aux : List ℕ) : Type 0 where
-  pub frames-some : 0 < frames
-  pub frames-most : frames ≤ mostFrames
-  pub row-most : k < mostRows
-  pub out-room : k * frames + frames ≤ length out
-  pub aux-room : k * frames + frames ≤ length aux
-
--- So do its own words and its kept words.
-pub record Room (frames k : ℕ) (rows out aux kept : List ℕ) : Type 0 where
-  pub block : BlockRoom frames k out aux
-  pub rows-room : k * rowWords + rowWords ≤ length rows
-  pub kept-room : k * keptCount + keptCount ≤ length kept
-
--- A frame counts at most four holds: two oversamples times two layers.
-abbrev pub mostHeld : ℕ
-mostHeld = 4
-
--- The lengths of n rows and of their take are right.
-pub record Fit (frames n : ℕ) (rows out aux kept : List ℕ) : Type 0 where
-  pub frames-some : 0 < frames
-  pub frames-most : frames ≤ mostFrames
-  pub rows-most : n ≤ mostRows
-  pub rows-long : length rows ≡ n * rowWords
-  pub out-long : length out ≡ n * frames
-  pub aux-long : length aux ≡ n * frames
-  pub kept-long : length kept ≡ n * keptCount
-
--- Row k is rendered: its `held`, whether it keeps the words that stood there, and the take with its words put in.
-pub record RowDone (s : Settings) (rows : List ℕ) (k : ℕ) (t : Take) (held : ℕ) (unchanged : Bool) (left : Take) : Type 0 where
-  pub held-is : held ≡ rowIn s rows (t .kept) k .held
-  pub held-most : held ≤ mostHeld * s .frames
-  pub same-is : unchanged ≡ same (keptAt (t .kept) k) (rowIn s rows (t .kept) k .words .kept)
-  pub left-is : left ≡ putWords (s .frames) t k (rowIn s rows (t .kept) k .words)

@@ -1,48 +1,36 @@
-use Rattle.take.proofs.Words.{put-is}
+-- `put_row` puts a row's words into row k's part, by `put-is`.
 use borrow.Author.Needs.{needs}
+use Rattle.take.proofs.Words.{put-is}
 use Rattle.take.proofs.put_row.Statement.{statement}
 use Rattle.take.proofs.put_row.Tie as tie
-use Rattle.take.proofs.put_row.Reads as reads
-use Rattle.take.proofs.put_row.Lts as lts
-use Rattle.take.proofs.copy_words.Reads as copy-words-reads
 
--- src/lib.rt:514:13
 mul-a : tie.Need-mul-a
 mul-a c = search needs
 
--- src/lib.rt:515:13
 add-e : tie.Need-add-e
 add-e c = search needs
 
--- src/lib.rt:516:16
 slice-aggregate-copy-words : tie.Need-slice-aggregate-copy-words
 slice-aggregate-copy-words c = search needs
 
--- src/lib.rt:516:22
 mul-copy-words : tie.Need-mul-copy-words
 mul-copy-words c = search needs
 
--- src/lib.rt:516:22
 sub-copy-words : tie.Need-sub-copy-words
 sub-copy-words c = search needs
 
--- src/lib.rt:516:22
 part-copy-words-start : tie.Need-part-copy-words-start
 part-copy-words-start c = search needs
 
--- src/lib.rt:516:22
 part-copy-words-end : tie.Need-part-copy-words-end
 part-copy-words-end c = search needs
 
--- src/lib.rt:516:5
 copy-words-requires : tie.Need-copy-words-requires
 copy-words-requires c κs = search needs
 
--- src/lib.rt:510:1
 same-length : tie.Need-same-length
 same-length c = search needs
 
--- src/lib.rt:510:1
 returns : tie.Need-returns
 returns c =
     let p = c .before .before .before .before .before .before in
