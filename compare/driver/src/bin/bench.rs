@@ -1,0 +1,149 @@
+//! Measures the library beside the original: one process, the same input, turn by turn. Prints a
+//! table of medians as comma-separated values.
+//!
+//! The original is measured at its best: its `render` has one caller, known to the compiler, which then
+//! inlines all of it. With the feature `trait-object` the engine is called through `dyn Engine` instead,
+//! as a host with several engines does, and whole renderings alone are measured. These are two programs,
+//! since in one the second caller would spoil the first.
+//!
+//! The original has no reader and no edits. A user of it renders the whole score again, so edits and
+//! reading are set against its whole rendering of the same 4,096 rows.
+
+use std::hint::black_box;
+use std::time::{Duration, Instant};
+
+use driver::cases;
+use driver::original;
+use driver::random::Random;
+use model::score::NAMES;
+use wohketa_retake::{Instrument, Row, Setup, Take, edit, read_score, render};
+
+const ROWS: usize = 4_096;
+const FRAMES: u32 = 24;
+const RATE: u32 = 48_000;
+const ROUNDS: usize = 61;
+/// After how many rows the measured edits of row 0 stop.
+const STOPS: [usize; 4] = [1, 16, 256, ROWS];
+/// A kept word that no rendering leaves, so that an edit stops at a restart alone.
+const NEVER_KEPT: u32 = 0x7fc0_0001;
+
+/// One instrument with its bank, map and score, and samples for the original to write.
+struct Bench<'a> {
+    number: u32,
+    bank: &'a [i16],
+    map: &'a [u8],
+    rows: &'a [u32],
+    out: Vec<f32>,
+    aux: Vec<f32>,
+}
+
+impl<'a> Bench<'a> {
+    fn new(number: u32, bank: &'a [i16], map: &'a [u8], rows: &'a [u32]) -> Self {
+        let samples = vec![0.0; ROWS * FRAMES as usize];
+        let map = if number == 2 { map } else { &[] };
+        Bench { number, bank, map, rows, out: samples.clone(), aux: samples }
+    }
+
+    fn setup(&self) -> Setup<'a> {
+        let instrument = match self.number {
+            0 => Instrument::Wavetable,
+            1 => Instrument::Terrain,
+            _ => Instrument::TerrainWithMap(self.map),
+        };
+        Setup { instrument, rate: RATE, frames: FRAMES, bank: self.bank }
+    }
+
+    /// The original's whole rendering.
+    fn original(&mut self) -> Duration {
+        let setup =
+            model::Setup { instrument: self.number, rate: RATE, frames: FRAMES, bank: self.bank, map: self.map };
+        timed(|| original::play(setup, self.rows, &mut self.out, &mut self.aux))
+    }
+
+    /// Measures a call of the library, turn by turn with the original.
+    fn measure(&mut self, name: &str, mut call: impl FnMut(usize) -> Duration) {
+        let (mut library, mut original) = (Vec::new(), Vec::new());
+        for round in 0..ROUNDS {
+            original.push(self.original().as_secs_f64() * 1e6);
+            library.push(call(round).as_secs_f64() * 1e6);
+        }
+        print(name, library, original);
+    }
+
+    /// Whole renderings. The samples must be the same.
+    fn renders(&mut self, bank: &str) {
+        let (setup, rows) = (self.setup(), self.rows);
+        let mut take = Take::new(ROWS, FRAMES);
+        let name = format!("render {} {bank} bank", self.number);
+        self.measure(&name, |_| timed(|| render(&setup, rows, &mut take)));
+        let equal = |words: &[u32], samples: &[f32]| words.iter().zip(samples).all(|(w, x)| *w == x.to_bits());
+        assert!(equal(&take.out, &self.out) && equal(&take.aux, &self.aux), "different samples: {name}");
+    }
+
+    /// Edits of row 0 that stop at a restart in row `stop`, or at the end.
+    fn edits(&mut self, stop: usize) {
+        let setup = self.setup();
+        let mut rows = self.rows.to_vec();
+        for (k, row) in rows.chunks_mut(Row::WORDS).enumerate() {
+            row[4] = u32::from(k == stop);
+        }
+        let mut take = Take::new(ROWS, FRAMES);
+        self.measure(&format!("edit {} stops after {stop}", self.number), |round| {
+            take.kept.fill(NEVER_KEPT);
+            let row = Row { note: 60.0, timbre: [0.25, 0.75][round % 2], morph: 0.5, harmonics: 0.5, restart: false };
+            let mut rendered = 0;
+            let time = timed(|| rendered = edit(&setup, &mut rows, 0, row, &mut take).map_or(0, |done| done.rows));
+            assert_eq!(rendered, stop as u64);
+            time
+        });
+    }
+
+    /// Reading the score's text.
+    fn reads(&mut self) {
+        let text = cases::text(&mut Random::new(5), NAMES, self.rows);
+        let mut rows = vec![0; ROWS * Row::WORDS];
+        self.measure("read", |_| timed(|| read_score(&text, &mut rows)));
+        assert_eq!(rows, self.rows);
+    }
+}
+
+fn timed<T>(call: impl FnOnce() -> T) -> Duration {
+    let start = Instant::now();
+    black_box(call());
+    start.elapsed()
+}
+
+fn quartile(mut values: Vec<f64>, number: usize) -> f64 {
+    values.sort_by(f64::total_cmp);
+    values[values.len() * number / 4]
+}
+
+/// One line: medians in microseconds, the ratio of the medians, and the quartiles of the rounds' ratios.
+fn print(name: &str, library: Vec<f64>, original: Vec<f64>) {
+    let ratios: Vec<f64> = library.iter().zip(&original).map(|(l, o)| l / o).collect();
+    let (l, o) = (quartile(library, 2), quartile(original, 2));
+    let (low, high) = (quartile(ratios.clone(), 1), quartile(ratios, 3));
+    println!("{name},{l:.2},{o:.2},{:.5},{low:.5},{high:.5}", l / o);
+}
+
+fn main() {
+    let published = original::published_bank();
+    let mut random = Random::new(7);
+    let rows = cases::usual_rows(&mut random, ROWS, 64);
+    let noise: Vec<i16> = (0..model::BANK).map(|_| random.word() as i16).collect();
+    let map: Vec<u8> = (0..model::MAP).map(|_| random.word() as u8).collect();
+    println!("measurement,library_us,original_us,ratio,first_quartile,third_quartile");
+    for number in 0..3 {
+        Bench::new(number, &noise, &map, &rows).renders("random");
+        Bench::new(number, &published, &map, &rows).renders("published");
+    }
+    if cfg!(feature = "trait-object") {
+        return;
+    }
+    for number in 0..3 {
+        for stop in STOPS {
+            Bench::new(number, &published, &map, &rows).edits(stop);
+        }
+    }
+    Bench::new(0, &published, &map, &rows).reads();
+}

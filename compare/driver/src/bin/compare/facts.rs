@@ -1,0 +1,130 @@
+//! Single scores with a known outcome, on the model, the original and the library.
+
+use driver::cases::{self, Case};
+use driver::library;
+use driver::random::Random;
+use model::{Answer, ROW_WORDS, floats, program, wavetable};
+
+use crate::calls::rendering;
+use crate::tally::{Tally, same};
+use crate::voices::model_is_original;
+
+/// Rows that are all the same.
+fn steady(count: usize, row: [u32; ROW_WORDS]) -> Vec<u32> {
+    (0..count).flat_map(|_| row).collect()
+}
+
+/// The smallest scores found in whose last row the original panics: instrument, frames, `held`, rows.
+fn smallest_holds() -> [(u32, u32, u64, Vec<u32>); 4] {
+    const ONE: u32 = 0x3f80_0000;
+    const NOTE_120: u32 = 0x42f0_0000;
+    let climbing = [NOTE_120, 0, 0, ONE, 0];
+    let map = [
+        [NOTE_120, ONE, ONE, ONE, 0],
+        [NOTE_120, ONE, ONE, ONE, 0],
+        [NOTE_120, ONE, 0x3f00_0000, ONE, 0],
+        [0, ONE, 0, ONE, 0],
+    ];
+    let bank = [
+        [NOTE_120, ONE, 0x3f00_0000, 0x3f20_0000, 0],
+        [0x41a0_0000, ONE, ONE, 0x3f20_0000, 0],
+        [NOTE_120, ONE, 0x3f00_0000, 0x3f20_0000, 0],
+        [0x4248_0000, ONE, ONE, 0x3f40_0000, 0],
+    ];
+    [
+        (0, 78, 7, steady(54, climbing)),
+        (0, 10, 10, steady(65, climbing)),
+        (2, 1, 1, map.concat()),
+        (1, 2, 1, bank.concat()),
+    ]
+}
+
+/// Known facts about single scores, on the model, the original and the library.
+pub fn facts(published: &[i16], random: &mut Random, tally: &mut Tally) {
+    let plain = |instrument, frames, rows| Case {
+        instrument,
+        rate: 48_000,
+        frames,
+        bank: published.to_vec(),
+        map: if instrument == 2 { vec![128; model::MAP] } else { Vec::new() },
+        rows,
+    };
+    // The quantised z reaches 7.
+    let case = plain(0, 128, steady(54, [0x42f0_0000, 0, 0, 0x3f80_0000, 0]));
+    let rows = model_is_original(&case, tally);
+    let held: Vec<u64> = rows.iter().map(|r| r.block.held).collect();
+    same("held of the last rows", &case, &held[52..], &[0, 49]);
+    rendering(&case, case.junk_take(random), tally);
+
+    for (instrument, frames, held, rows) in smallest_holds() {
+        let case = Case { rate: 32_000, ..plain(instrument, frames, rows) };
+        let rows = model_is_original(&case, tally);
+        let before: u64 = rows[..rows.len() - 1].iter().map(|r| r.block.held).sum();
+        same("held before and in the last row", &case, [before, rows[rows.len() - 1].block.held], [0, held]);
+        rendering(&case, case.junk_take(random), tally);
+    }
+
+    // The largest scores.
+    for instrument in 0..3 {
+        let case = plain(instrument, model::FRAMES, cases::usual_rows(random, model::ROWS, 1000));
+        model_is_original(&case, tally);
+        rendering(&case, case.junk_take(random), tally);
+    }
+
+    // Edits that the next row's state does not see.
+    let note = steady(9, [0x4270_0000, 0, 0, 0, 0]);
+    let high = steady(9, [0x4270_0000, 0, 0, 0x3f7f_ffff, 0]);
+    for (instrument, rows, position, row) in [
+        (0, &note, 4, [0x4270_0001, 0, 0, 0, 0]),
+        (0, &note, 4, [0x4270_0000, 0x8000_0000, 0, 0, 0]),
+        (0, &note, 0, [0x4270_0000, 0, 0, 0, 1]),
+        (1, &high, 4, [0x4270_0000, 0, 0, 0x3f80_0000, 0]),
+    ] {
+        let mut case = plain(instrument, 24, rows.clone());
+        let mut take = case.junk_take(random);
+        library::render(&case.setup(), &rows.clone(), &mut take);
+        let mut rows = rows.clone();
+        let answer = library::edit(&case.setup(), &mut rows, position, row, &mut take);
+        same("an edit that fades at once", &case, answer, Answer::Done(1, 0));
+        case.rows = rows;
+        model_is_original(&case, tally);
+    }
+
+    // An edit that never fades: pre x sinks to a subnormal and stays there.
+    let case = plain(0, 24, steady(4096, [0x4270_0000, 0, 0, 0, 0]));
+    let mut take = case.junk_take(random);
+    library::render(&case.setup(), &case.rows, &mut take);
+    let changed = [0x4270_0000, 0x3f00_0000, 0, 0, 0];
+    let answer = library::edit(&case.setup(), &mut case.rows.clone(), 12, changed, &mut take);
+    same("an edit that never fades", &case, answer, Answer::Done(4084, 0));
+
+    // Kept words can stay subnormal.
+    let mut case = plain(0, 1, steady(600, [0x4270_0000, 0, 0, 0, 0]));
+    case.rows[1] = 0x3f80_0000;
+    let rows = model_is_original(&case, tally);
+    same("pre x at the end", &case, rows[599].kept[1], 2);
+
+    // Bench values.
+    same("whole parts", &case, [floats::whole(2.75), floats::whole(-0.5), floats::whole(f32::NAN)], [2, 0, 0]);
+    same("whole part to i32", &case, floats::whole_i32(3e9), 2_147_483_648.0);
+    let waves = [(1, 0, 3), (7, 7, 3), (8, 7, 2)].map(|(x, y, z)| wavetable::wave(x, y, z));
+    same("waves", &case, waves, [101, 27, 0]);
+    same("folds", &case, [wavetable::fold(4), wavetable::fold(7)], [3, 0]);
+
+    example(&case);
+}
+
+/// Document 01's example of the program.
+fn example(case: &Case) {
+    let score = b"timbre note morph harmonics restart\n\
+        00000000 42700000 00000000 00000000 00000001\n\
+        3f000000 42700000 00000000 00000000 00000000\n\
+        3f000000 42700000 00000000 00000000 00000001\n";
+    let edits = b"row note timbre morph harmonics restart\n\
+        00000001 42700000 3f800000 00000000 00000000 00000000\n\
+        00000000 42700000 3f800000 00000000 00000000 00000001\n\
+        00000002 42700000 3f000000 00000000 00000000 00000001\n";
+    let run = program::run(score, edits, &[7; 50_688]);
+    let printed = "row rendered held\n1 1 0\n0 2 0\n2 0 0\n";
+    same("the program's example", case, String::from_utf8_lossy(&run.printed).as_ref(), printed);
+}

@@ -1,0 +1,64 @@
+//! Holds the model to the original, and the library to both.
+//!
+//!     compare [SCALE [SEED]]
+//!
+//! SCALE 1 is the quick run; 100 does a hundred times as much. SEED picks other inputs. The first
+//! difference is printed with its input and ends the run.
+
+mod calls;
+mod facts;
+mod tally;
+mod texts;
+mod voices;
+
+use std::path::Path;
+
+use driver::cases::Case;
+use driver::original;
+use driver::random::Random;
+
+use calls::{edits, junk_edits, refusals, rendering};
+use tally::Tally;
+use texts::{programs, texts};
+use voices::{model_is_original, model_is_original_on_any_state};
+
+fn main() {
+    let mut arguments = std::env::args().skip(1).map(|a| a.parse::<u64>().expect("SCALE and SEED are numbers"));
+    let scale = arguments.next().unwrap_or(1);
+    let seed = arguments.next().unwrap_or(1);
+    original::silence_panics();
+    let published = original::published_bank();
+    let mut random = Random::new(seed);
+    let random = &mut random;
+    let mut tally = Tally::default();
+
+    facts::facts(&published, random, &mut tally);
+    for _ in 0..1500 * scale {
+        model_is_original(&Case::random(random, &published, 90), &mut tally);
+    }
+    for _ in 0..20_000 * scale {
+        let case = Case::random(random, &published, 1);
+        model_is_original_on_any_state(&case, random, &mut tally);
+    }
+    for _ in 0..1000 * scale {
+        let case = Case::random(random, &published, 60);
+        rendering(&case, case.junk_take(random), &mut tally);
+        edits(Case::random(random, &published, 20), random, &mut tally);
+        junk_edits(Case::random(random, &published, 20), random, &mut tally);
+        refusals(Case::random(random, &published, 6), random, &mut tally);
+        for _ in 0..10 {
+            texts(random, &mut tally);
+        }
+    }
+    let program = std::env::var("RETAKE_PROGRAM").unwrap_or_default();
+    if Path::new(&program).exists() {
+        for _ in 0..200 * scale {
+            programs(&program, random, &published, &mut tally);
+        }
+    }
+
+    println!("equal, scale {scale}, seed {seed}:");
+    for (name, n) in &tally.0 {
+        println!("{n:>14}  {name}");
+    }
+}

@@ -1,0 +1,6 @@
+//! What the comparison, the benchmark and the list of answers share.
+
+pub mod cases;
+pub mod library;
+pub mod original;
+pub mod random;

@@ -1,0 +1,65 @@
+//! Document 01 in plain Rust, frame by frame, written for being read and not for speed.
+//!
+//! It is the judge wherever the original has no answer: holds, kept words, row edits, refusals, the
+//! score text and the program. Elsewhere the comparison holds it to the original, bit for bit.
+//! Only the published tables (sine, pitch ratios) are taken from the original's files.
+
+pub mod floats;
+pub mod program;
+pub mod score;
+mod tables;
+pub mod take;
+pub mod terrain;
+pub mod voice;
+pub mod wavetable;
+
+/// Words of a row: note, timbre, morph, harmonics, restart.
+pub const ROW_WORDS: usize = 5;
+/// The largest number of rows of a score.
+pub const ROWS: usize = 4096;
+/// The largest number of frames of a block.
+pub const FRAMES: u32 = 128;
+/// Words kept after each row.
+pub const KEPT_WORDS: usize = 13;
+/// Length of the lent bank: 192 waves of 132.
+pub const BANK: usize = 25_344;
+/// Length of the lent map: 64 rows of 64.
+pub const MAP: usize = 4_096;
+/// The lowest and the highest rate in Hz.
+pub const RATES: std::ops::RangeInclusive<u32> = 32_000..=192_000;
+
+/// The result of a call.
+#[derive(Debug, Clone, Copy, PartialEq, Eq)]
+pub enum Answer {
+    /// (row count, 0) of the reader; (rows rendered, `held` of these rows) of rendering and edit.
+    Done(u64, u64),
+    /// Number and place.
+    Refused(u32, u64),
+}
+
+/// What stays the same from call to call.
+#[derive(Debug, Clone, Copy)]
+pub struct Setup<'a> {
+    pub instrument: u32,
+    pub rate: u32,
+    pub frames: u32,
+    pub bank: &'a [i16],
+    pub map: &'a [u8],
+}
+
+/// A take: out, aux and kept words.
+#[derive(Debug, Clone, PartialEq, Eq)]
+pub struct Take {
+    pub out: Vec<u32>,
+    pub aux: Vec<u32>,
+    pub kept: Vec<u32>,
+}
+
+impl Take {
+    /// A take of the lengths that `rows` rows of `frames` frames want, filled by `word`.
+    pub fn filled(rows: usize, frames: u32, mut word: impl FnMut() -> u32) -> Take {
+        let mut words = |n: usize| (0..n).map(|_| word()).collect();
+        let samples = rows * frames as usize;
+        Take { out: words(samples), aux: words(samples), kept: words(rows * KEPT_WORDS) }
+    }
+}

@@ -1,0 +1,112 @@
+//! The voice state, its 13 kept words, and the block of a row.
+
+use crate::floats::word;
+use crate::terrain::Terrain;
+use crate::wavetable::Wavetable;
+use crate::{KEPT_WORDS, Setup};
+
+/// A row's floats.
+#[derive(Debug, Clone, Copy)]
+pub struct Parameters {
+    pub note: f32,
+    pub timbre: f32,
+    pub morph: f32,
+    pub harmonics: f32,
+}
+
+impl Parameters {
+    pub fn of_row(row: &[u32]) -> Self {
+        let [note, timbre, morph, harmonics] = [row[0], row[1], row[2], row[3]].map(f32::from_bits);
+        Self { note, timbre, morph, harmonics }
+    }
+}
+
+/// How often each kind of position was held in a block. `layer` is not part of `held`.
+#[derive(Debug, Clone, Copy, Default, PartialEq, Eq)]
+pub struct Holds {
+    pub phase: u64,
+    pub x: u64,
+    pub y: u64,
+    pub z: u64,
+    pub map: u64,
+    pub bank: u64,
+    pub layer: u64,
+}
+
+impl Holds {
+    pub fn any_counted(&self) -> bool {
+        self.phase + self.x + self.y + self.z + self.map + self.bank > 0
+    }
+
+    pub fn any(&self) -> bool {
+        self.any_counted() || self.layer > 0
+    }
+
+    pub fn add(&mut self, other: &Holds) {
+        self.phase += other.phase;
+        self.x += other.x;
+        self.y += other.y;
+        self.z += other.z;
+        self.map += other.map;
+        self.bank += other.bank;
+        self.layer += other.layer;
+    }
+}
+
+/// What a row's block leaves: words of out and aux, `held`, and of which kind the holds were.
+#[derive(Debug, Clone, Default, PartialEq, Eq)]
+pub struct Block {
+    pub out: Vec<u32>,
+    pub aux: Vec<u32>,
+    pub held: u64,
+    pub holds: Holds,
+}
+
+impl Block {
+    pub fn push(&mut self, out: f32, aux: f32) {
+        self.out.push(word(out));
+        self.aux.push(word(aux));
+    }
+}
+
+#[derive(Debug, Clone, Copy)]
+pub enum Voice {
+    Wavetable(Wavetable),
+    Terrain(Terrain),
+}
+
+impl Voice {
+    pub fn fresh(setup: &Setup) -> Voice {
+        match setup.instrument {
+            0 => Voice::Wavetable(Wavetable::fresh(setup.rate)),
+            _ => Voice::Terrain(Terrain::fresh()),
+        }
+    }
+
+    /// The state of any 13 words. Terrain's last seven are no part of it.
+    pub fn of_kept(instrument: u32, kept: &[u32]) -> Voice {
+        let floats: [f32; KEPT_WORDS] = std::array::from_fn(|i| f32::from_bits(kept[i]));
+        match instrument {
+            0 => Voice::Wavetable(Wavetable::of_floats(floats)),
+            _ => Voice::Terrain(Terrain::of_floats(std::array::from_fn(|i| floats[i]))),
+        }
+    }
+
+    pub fn kept(&self) -> [u32; KEPT_WORDS] {
+        match self {
+            Voice::Wavetable(v) => v.floats().map(word),
+            Voice::Terrain(v) => {
+                let floats = v.floats();
+                std::array::from_fn(|i| floats.get(i).map_or(0, |x| word(*x)))
+            }
+        }
+    }
+
+    pub fn render(&mut self, setup: &Setup, row: &[u32]) -> Block {
+        let parameters = Parameters::of_row(row);
+        match self {
+            Voice::Wavetable(v) => v.render(setup, parameters),
+            Voice::Terrain(v) => v.render(setup, parameters),
+        }
+    }
+}

@@ -1,0 +1,126 @@
+//! The library's three C functions (`include/retake.h`) over the model.
+//!
+//! # Safety
+//! Each pointer has as many elements behind it as its length says.
+#![allow(clippy::missing_safety_doc)]
+
+use model::{Answer, Setup, Take, score, take};
+use std::slice::{from_raw_parts, from_raw_parts_mut};
+
+unsafe fn give(answer: Answer, first: *mut u64, second: *mut u64) -> u32 {
+    let (number, a, b) = match answer {
+        Answer::Done(a, b) => (0, a, b),
+        Answer::Refused(number, place) => (number, place, 0),
+    };
+    unsafe {
+        *first = a;
+        *second = b;
+    }
+    number
+}
+
+/// A copy of the lent take goes to the model; what it leaves is copied back.
+struct Lent<'a> {
+    out: &'a mut [u32],
+    aux: &'a mut [u32],
+    kept: &'a mut [u32],
+}
+
+impl Lent<'_> {
+    fn with(self, call: impl FnOnce(&mut Take) -> Answer) -> Answer {
+        let mut take = Take { out: self.out.to_vec(), aux: self.aux.to_vec(), kept: self.kept.to_vec() };
+        let answer = call(&mut take);
+        self.out.copy_from_slice(&take.out);
+        self.aux.copy_from_slice(&take.aux);
+        self.kept.copy_from_slice(&take.kept);
+        answer
+    }
+}
+
+#[unsafe(no_mangle)]
+pub unsafe extern "C" fn retake_read_score(
+    text: *const u8,
+    text_len: usize,
+    rows: *mut u32,
+    rows_len: usize,
+    first: *mut u64,
+    second: *mut u64,
+) -> u32 {
+    unsafe {
+        let answer = score::read_score(from_raw_parts(text, text_len), from_raw_parts_mut(rows, rows_len));
+        give(answer, first, second)
+    }
+}
+
+#[unsafe(no_mangle)]
+pub unsafe extern "C" fn retake_render(
+    instrument: u32,
+    rate: u32,
+    frames: u32,
+    bank: *const i16,
+    bank_len: usize,
+    map: *const u8,
+    map_len: usize,
+    rows: *const u32,
+    rows_len: usize,
+    out: *mut u32,
+    out_len: usize,
+    aux: *mut u32,
+    aux_len: usize,
+    kept: *mut u32,
+    kept_len: usize,
+    first: *mut u64,
+    second: *mut u64,
+) -> u32 {
+    unsafe {
+        let (bank, map) = (from_raw_parts(bank, bank_len), from_raw_parts(map, map_len));
+        let setup = Setup { instrument, rate, frames, bank, map };
+        let rows = from_raw_parts(rows, rows_len);
+        let lent = Lent {
+            out: from_raw_parts_mut(out, out_len),
+            aux: from_raw_parts_mut(aux, aux_len),
+            kept: from_raw_parts_mut(kept, kept_len),
+        };
+        give(lent.with(|t| take::render(&setup, rows, t)), first, second)
+    }
+}
+
+#[unsafe(no_mangle)]
+pub unsafe extern "C" fn retake_edit(
+    instrument: u32,
+    rate: u32,
+    frames: u32,
+    bank: *const i16,
+    bank_len: usize,
+    map: *const u8,
+    map_len: usize,
+    rows: *mut u32,
+    rows_len: usize,
+    position: u64,
+    note: u32,
+    timbre: u32,
+    morph: u32,
+    harmonics: u32,
+    restart: u32,
+    out: *mut u32,
+    out_len: usize,
+    aux: *mut u32,
+    aux_len: usize,
+    kept: *mut u32,
+    kept_len: usize,
+    first: *mut u64,
+    second: *mut u64,
+) -> u32 {
+    unsafe {
+        let (bank, map) = (from_raw_parts(bank, bank_len), from_raw_parts(map, map_len));
+        let setup = Setup { instrument, rate, frames, bank, map };
+        let rows = from_raw_parts_mut(rows, rows_len);
+        let lent = Lent {
+            out: from_raw_parts_mut(out, out_len),
+            aux: from_raw_parts_mut(aux, aux_len),
+            kept: from_raw_parts_mut(kept, kept_len),
+        };
+        let row = [note, timbre, morph, harmonics, restart];
+        give(lent.with(|t| take::edit(&setup, rows, position, row, t)), first, second)
+    }
+}

@@ -1,0 +1,58 @@
+//! The library's C functions, as `include/retake.h` explains them.
+
+unsafe extern "C" {
+    pub fn retake_read_score(
+        text: *const u8,
+        text_len: usize,
+        rows: *mut u32,
+        rows_len: usize,
+        first: *mut u64,
+        second: *mut u64,
+    ) -> u32;
+
+    pub fn retake_render(
+        instrument: u32,
+        rate: u32,
+        frames: u32,
+        bank: *const i16,
+        bank_len: usize,
+        map: *const u8,
+        map_len: usize,
+        rows: *const u32,
+        rows_len: usize,
+        out: *mut u32,
+        out_len: usize,
+        aux: *mut u32,
+        aux_len: usize,
+        kept: *mut u32,
+        kept_len: usize,
+        first: *mut u64,
+        second: *mut u64,
+    ) -> u32;
+
+    pub fn retake_edit(
+        instrument: u32,
+        rate: u32,
+        frames: u32,
+        bank: *const i16,
+        bank_len: usize,
+        map: *const u8,
+        map_len: usize,
+        rows: *mut u32,
+        rows_len: usize,
+        position: u64,
+        note: u32,
+        timbre: u32,
+        morph: u32,
+        harmonics: u32,
+        restart: u32,
+        out: *mut u32,
+        out_len: usize,
+        aux: *mut u32,
+        aux_len: usize,
+        kept: *mut u32,
+        kept_len: usize,
+        first: *mut u64,
+        second: *mut u64,
+    ) -> u32;
+}
