@@ -34,6 +34,13 @@ pub written-three : {x y z p p' p'' p''' : List ℕ} {a e e' e'' : ℕ} → a �
 written-three {x} {y} {z} {p} {p'} {p''} {p'''} {a} {e} {e'} {e''} h u v w =
     subst (λ (text : List ℕ). Written text p a p''' e'') (append-assoc x y z) (written-more h (written-more h u v) w)
 
+-- a text that was put at the front lies within the bytes
+pub written-within : (text p : List ℕ) (p' : List ℕ) (e : ℕ) → Written text p 0 p' e → e ≤ length p'
+written-within text p p' e w = rw (w .put-in) (omega (arith, w .end-is, length-append text (drop (length text) p)))
+
+pub written-part : (text p : List ℕ) (p' : List ℕ) (e : ℕ) → Written text p 0 p' e → e ≡ length (take e p')
+written-part text p p' e w = sym (length-take-le e p' (written-within text p p' e w))
+
 -- a text that was pasted whole
 pub pasted-all : (p : List ℕ) (a : ℕ) (text : List ℕ) (i : ℕ) → length text ≤ i → i ≤ length text → Written text p a (paste p a text i) (a + i)
 pasted-all p a text i m l =
