@@ -3,3 +3,4 @@ pub mod Readings
 pub mod NearSine
 pub mod SineTop
 pub mod Bench
+pub mod Runs

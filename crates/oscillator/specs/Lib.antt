@@ -1,2 +1,3 @@
+pub mod Path
 pub mod Readings
 pub mod Sine

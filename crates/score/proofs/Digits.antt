@@ -10,11 +10,7 @@ use lib.Dec.{leb, eqb}
 use lib.ListN.{length, getD, take, drop, length-drop}
 use lib.Seq.{drop-cons, take-add, drop-drop}
 use Rattle.score.specs.Text.{between, isDigit, digitOf, eachDigit, wordDigits, isWord, followedBy, wordOf}
-
--- both halves of a conjunction
-pub both : (a b : Bool) → a && b ≡ true → (a ≡ true) × (b ≡ true)
-both true b e = (refl, e)
-both false b e = absurd (false≢true e)
+use Rattle.score.proofs.Cases.{both, and-true}
 
 -- ---- a digit
 inside : (low high b : ℕ) → between low high b ≡ true → (low ≤ b) × (b ≤ high)
@@ -32,7 +28,7 @@ digit-value b e = go (between 48 57 b) (between 65 70 b) (between 97 102 b) (ins
     go false false false f g h e = absurd (false≢true e)
 
 -- ---- a run of bytes
-abbrev pub run : ℕ → List ℕ → ℕ → ℕ → List ℕ
+abbrev run : ℕ → List ℕ → ℕ → ℕ → List ℕ
 run zero text at k = []
 run (suc n) text at k = getD text (at + k) 0 ∷ run n text at (suc k)
 
@@ -40,7 +36,7 @@ run-at : (n : ℕ) (text : List ℕ) (at k : ℕ) → at + k + n ≤ length text
 run-at zero text at k h = refl
 run-at (suc n) text at k h = rw (drop-cons text (at + k) 0 (omega arith), sym (add-suc at k)) (ap (λ (r : List ℕ). getD text (at + k) 0 ∷ r) (run-at n text at (suc k) (omega arith)))
 
-pub is-run : (n : ℕ) (text : List ℕ) (at : ℕ) → at + n ≤ length text → take n (drop at text) ≡ run n text at 0
+is-run : (n : ℕ) (text : List ℕ) (at : ℕ) → at + n ≤ length text → take n (drop at text) ≡ run n text at 0
 is-run n text at h = ap (λ (k : ℕ). take n (drop k text)) (sym (add-zero at)) ∙ run-at n text at 0 (omega arith)
 
 -- ---- a word and its halves
@@ -61,10 +57,6 @@ followed : (number : ℕ) (a b : List ℕ) → followedBy number (a ++ b) ≡ fo
 unfolding followedBy
 followed number [] b = refl
 followed number (x ∷ a) b = followed _ a b
-
-pub and-true : (b : Bool) → b && true ≡ b
-and-true true = refl
-and-true false = refl
 
 module _ (text : List ℕ) (at : ℕ) where
   pub word-by-digits : at + wordDigits ≤ length text

@@ -12,10 +12,9 @@ use lib.ListN.{length, getD, take, drop, take-append-drop, length-drop}
 use lib.Seq.{drop-cons, take-take, getD-take, length-take-le, drop-drop}
 use Rattle.score.specs.Text.{lf, space, onFirst, split, Line, ended, unended, contents, lined, linesOf, firstOf, restOf, fieldsOf, isDigit, eachDigit, wordDigits, isWord, eachWord, holdsWords}
 use Rattle.score.specs.Inner.{startsWord}
-use Rattle.score.proofs.Order.{le-or-lt}
+use Rattle.score.proofs.Cases.{le-or-lt, both, and-true, and-false}
 use Rattle.score.proofs.Split.{reach, first-piece, reach-fits, reach-at}
 use Rattle.score.proofs.FirstLine.{lined-cut, first-line, open-line}
-use Rattle.score.proofs.Digits.{both, and-true}
 
 -- ---- bytes in front of a text that are no LF: they stand in front of its first line
 abbrev onLine : List ℕ → Line → Line
@@ -51,7 +50,7 @@ module _ (cut : ℕ) (no : isDigit cut ≡ false) where
 
 -- a word's digits, and a text after them
 module _ (text : List ℕ) where
-  pub first-after : (w : List ℕ) → eachDigit w ≡ true → firstOf (linesOf (w ++ text)) ≡ onLine w (firstOf (linesOf text))
+  first-after : (w : List ℕ) → eachDigit w ≡ true → firstOf (linesOf (w ++ text)) ≡ onLine w (firstOf (linesOf text))
   unfolding linesOf split eachDigit isDigit
   first-after [] e = no-bytes (firstOf (linesOf text))
   first-after (b ∷ w) e =
@@ -59,7 +58,7 @@ module _ (text : List ℕ) where
       let h = first-after w (p .1) in
       rw (other lf refl b (p .0)) (first-of-pieces b (split lf (w ++ text)) ∙ ap (onLine (b ∷ [])) h ∙ on-line b w (firstOf (linesOf text)))
 
-  pub rest-after : (w : List ℕ) → eachDigit w ≡ true → restOf (linesOf (w ++ text)) ≡ restOf (linesOf text)
+  rest-after : (w : List ℕ) → eachDigit w ≡ true → restOf (linesOf (w ++ text)) ≡ restOf (linesOf text)
   unfolding linesOf split eachDigit isDigit
   rest-after [] e = refl
   rest-after (b ∷ w) e =
@@ -67,14 +66,14 @@ module _ (text : List ℕ) where
       rw (other lf refl b (p .0)) (rest-of-pieces b (split lf (w ++ text)) ∙ rest-after w (p .1))
 
   -- and one that starts with a space gives the word as a field
-  pub field-after : (w : List ℕ) → eachDigit w ≡ true → fieldsOf (w ++ (space ∷ text)) ≡ w ∷ fieldsOf text
+  field-after : (w : List ℕ) → eachDigit w ≡ true → fieldsOf (w ++ (space ∷ text)) ≡ w ∷ fieldsOf text
   unfolding split eachDigit isDigit
   field-after [] e = refl
   field-after (b ∷ w) e =
       let p = both (isDigit b) (eachDigit w) e in
       rw (other space refl b (p .0)) (ap (onFirst b) (field-after w (p .1)))
 
-pub field-alone : (w : List ℕ) → eachDigit w ≡ true → fieldsOf w ≡ w ∷ []
+field-alone : (w : List ℕ) → eachDigit w ≡ true → fieldsOf w ≡ w ∷ []
 unfolding split eachDigit isDigit
 field-alone [] e = refl
 field-alone (b ∷ w) e =
@@ -90,14 +89,14 @@ module _ (follows : ℕ) (text : List ℕ) (e : startsWord follows text ≡ true
   pub starts-long : wordDigits < length text
   starts-long = ltb-true wordDigits (length text) (parts .0)
 
-  pub starts-word : isWord (take wordDigits text) ≡ true
+  starts-word : isWord (take wordDigits text) ≡ true
   starts-word = both (isWord (take wordDigits text)) (eqb (getD text wordDigits 0) follows) (parts .1) .0
 
-  pub starts-digits : eachDigit (take wordDigits text) ≡ true
+  starts-digits : eachDigit (take wordDigits text) ≡ true
   unfolding isWord
   starts-digits = both (eqb (length (take wordDigits text)) wordDigits) (eachDigit (take wordDigits text)) starts-word .1
 
-  pub starts-as : text ≡ take wordDigits text ++ (follows ∷ drop (suc wordDigits) text)
+  starts-as : text ≡ take wordDigits text ++ (follows ∷ drop (suc wordDigits) text)
   starts-as =
       let b = eqb-true (getD text wordDigits 0) follows (both (isWord (take wordDigits text)) (eqb (getD text wordDigits 0) follows) (parts .1) .1) in
       sym (take-append-drop wordDigits text) ∙ ap (λ (l : List ℕ). take wordDigits text ++ l) (drop-cons text wordDigits 0 starts-long ∙ ap (λ (x : ℕ). x ∷ drop (suc wordDigits) text) b)
@@ -111,14 +110,14 @@ module _ (text : List ℕ) (e : startsWord space text ≡ true) where
       ∙ first-after (space ∷ drop (suc wordDigits) text) (take wordDigits text) (starts-digits space text e)
       ∙ ap (onLine (take wordDigits text)) (first-of-pieces space (split lf (drop (suc wordDigits) text)))
 
-  pub lines-on : restOf (linesOf text) ≡ restOf (linesOf (drop (suc wordDigits) text))
+  lines-on : restOf (linesOf text) ≡ restOf (linesOf (drop (suc wordDigits) text))
   unfolding linesOf split
   lines-on =
       ap (λ (l : List ℕ). restOf (linesOf l)) (starts-as space text e)
       ∙ rest-after (space ∷ drop (suc wordDigits) text) (take wordDigits text) (starts-digits space text e)
       ∙ rest-of-pieces space (split lf (drop (suc wordDigits) text))
 
-  pub fields-on : fieldsOf (contents (firstOf (linesOf text))) ≡ take wordDigits text ∷ fieldsOf (contents (firstOf (linesOf (drop (suc wordDigits) text))))
+  fields-on : fieldsOf (contents (firstOf (linesOf text))) ≡ take wordDigits text ∷ fieldsOf (contents (firstOf (linesOf (drop (suc wordDigits) text))))
   fields-on = rw line-on (go (firstOf (linesOf (drop (suc wordDigits) text))))
     where
       go : (line : Line) → fieldsOf (contents (onLine (take wordDigits text) (onLine (space ∷ []) line))) ≡ take wordDigits text ∷ fieldsOf (contents line)
@@ -135,7 +134,7 @@ module _ (text : List ℕ) (e : startsWord space text ≡ true) where
 
 -- a word and an LF
 module _ (text : List ℕ) (e : startsWord lf text ≡ true) where
-  pub line-ends : firstOf (linesOf text) ≡ ended (take wordDigits text)
+  line-ends : firstOf (linesOf text) ≡ ended (take wordDigits text)
   unfolding linesOf split
   line-ends =
       ap (λ (l : List ℕ). firstOf (linesOf l)) (starts-as lf text e)
@@ -143,17 +142,17 @@ module _ (text : List ℕ) (e : startsWord lf text ≡ true) where
       ∙ ap (λ (ls : List Line). onLine (take wordDigits text) (firstOf ls)) (lined-cut [] (drop (suc wordDigits) text))
       ∙ ap ended (append-nil (take wordDigits text))
 
-  pub lines-left : restOf (linesOf text) ≡ linesOf (drop (suc wordDigits) text)
+  lines-left : restOf (linesOf text) ≡ linesOf (drop (suc wordDigits) text)
   unfolding linesOf split
   lines-left =
       ap (λ (l : List ℕ). restOf (linesOf l)) (starts-as lf text e)
       ∙ rest-after (lf ∷ drop (suc wordDigits) text) (take wordDigits text) (starts-digits lf text e)
       ∙ ap restOf (lined-cut [] (drop (suc wordDigits) text))
 
-  pub field-ends : fieldsOf (contents (firstOf (linesOf text))) ≡ take wordDigits text ∷ []
+  field-ends : fieldsOf (contents (firstOf (linesOf text))) ≡ take wordDigits text ∷ []
   field-ends = rw line-ends (field-alone (take wordDigits text) (starts-digits lf text e))
 
-  pub one-word : (count : ℕ) → holdsWords (suc count) (firstOf (linesOf text)) ≡ eqb 0 count
+  one-word : (count : ℕ) → holdsWords (suc count) (firstOf (linesOf text)) ≡ eqb 0 count
   unfolding holdsWords eachWord
   one-word count = rw (line-ends, field-alone (take wordDigits text) (starts-digits lf text e), starts-word lf text e, eqb·suc-suc 0 count, and-true)
 
@@ -161,10 +160,6 @@ module _ (text : List ℕ) (e : startsWord lf text ≡ true) where
 starts-with : (follows : ℕ) (text : List ℕ) → wordDigits < length text → isWord (take wordDigits text) ≡ true → getD text wordDigits 0 ≡ follows → startsWord follows text ≡ true
 unfolding startsWord
 starts-with follows text h w b = rw (lt-ltb wordDigits (length text) h, w, eq-eqb (getD text wordDigits 0) follows b)
-
-and-false : (b : Bool) → b && false ≡ false
-and-false true = refl
-and-false false = refl
 
 module _ (text : List ℕ) (no-space : startsWord space text ≡ false) (no-lf : startsWord lf text ≡ false) where
   module _ (end : ℕ) (e : end ≡ reach lf text) (h : end < length text) (k : ℕ) (r : k ≡ reach space (take end text)) (w : isWord (take k (take end text)) ≡ true) where
@@ -198,7 +193,7 @@ module _ (text : List ℕ) (no-space : startsWord space text ≡ false) (no-lf :
       go true w = absurd (clash end e h (reach space (take end text)) refl w)
       go false w = refl
 
-  pub no-words : (count : ℕ) → holdsWords (suc count) (firstOf (linesOf text)) ≡ false
+  no-words : (count : ℕ) → holdsWords (suc count) (firstOf (linesOf text)) ≡ false
   unfolding holdsWords eachWord
   no-words count = ⊎-elim (λ h. rw (open-line text h)) closed (le-or-lt (length text) (reach lf text))
     where

@@ -1,4 +1,5 @@
 -- What the proofs of this crate share.
+pub mod Cases
 pub mod Order
 pub mod Within
 pub mod Split
@@ -9,4 +10,5 @@ pub mod Fields
 pub mod Rows
 pub mod Storing
 pub mod Settling
+pub mod Accepted
 pub mod Examples

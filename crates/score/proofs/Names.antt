@@ -9,6 +9,7 @@ use lib.Dec.{eqb}
 use lib.ListN.{length, take, drop, set, length-set}
 use lib.Seq.{take-suc-set, append-snoc}
 use Rattle.score.specs.Text.{space, fieldsOf, same, columnOf, columnsOf}
+use Rattle.score.specs.Inner.{mostNames}
 use Rattle.score.proofs.Split.{reach, rest, all-pieces, next-piece, no-piece}
 
 pub other-lengths : (a b : List ℕ) → (length a ≡ length b → ⊥) → same a b ≡ false
@@ -37,12 +38,12 @@ no-column name = refl
 -- ---- the columns of names that stand in a text with one space between: the first k are stored, and the names from `from` on are left
 pub record Placed (names : List ℕ) (fields : List (List ℕ)) (columns : List ℕ) (from k : ℕ) : Type 0 where
   pub inside : from ≤ length names + 1
-  pub long : length columns ≡ 6
+  pub long : length columns ≡ mostNames
   pub many : k + length (rest space names from) ≡ length (fieldsOf names)
   pub stored : take k columns ++ columnsOf (rest space names from) fields ≡ columnsOf (fieldsOf names) fields
 
 module _ (names : List ℕ) (fields : List (List ℕ)) (columns : List ℕ) where
-  pub places : length columns ≡ 6 → Placed names fields columns 0 0
+  pub places : length columns ≡ mostNames → Placed names fields columns 0 0
   places h =
       let e = all-pieces space names in
       record { inside = omega arith; long = h; many = rw e (omega arith); stored = rw e }
@@ -51,7 +52,7 @@ module _ (names : List ℕ) (fields : List (List ℕ)) (columns : List ℕ) wher
     pub left : k < length (fieldsOf names)
     left = omega (arith, h .many, ap length (next-piece space names from end on e))
 
-    pub places-on : end ≤ length names → length (fieldsOf names) ≤ 6 → Placed names fields (set columns k (columnOf (take (end - from) (drop from names)) fields)) (end + 1) (k + 1)
+    pub places-on : end ≤ length names → length (fieldsOf names) ≤ mostNames → Placed names fields (set columns k (columnOf (take (end - from) (drop from names)) fields)) (end + 1) (k + 1)
     unfolding columnsOf
     places-on i f =
         let p = next-piece space names from end on e in

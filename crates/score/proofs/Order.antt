@@ -1,11 +1,11 @@
 -- Floats from +0 up stand in the order of their words: both go by the exponent's field first and then by the digits below it.
 use mathlib.Core.Path.{_≡_, refl, sym, ap, _∙_, subst}
-use mathlib.Core.Logic.{_⊎_, inl, inr, ⊎-elim}
+use mathlib.Core.Logic.{⊎-elim}
 use mathlib.Core.Bool.{Bool, true, false, _&&_, _||_, cond, true≢false, false≢true}
 use Prim.Native.Nat.{ℕ, zero, suc, _+_, _*_, _/_, _%_, _^_, _≤_, _<_}
 use native.Mathlib.Nat.{eq-or-lt-of-le, mul-lt-mul-of-pos-right, mul-le-mul-left, mul-le-mul-right, le-of-mul-le-mul-right, pow-suc, mod-eq-of-lt, lt-irrefl, lt-of-lt-of-le, le-trans, le-of-eq, le-of-lt, zero-mul, mul-pos}
 use native.Mathlib.Omega.{arith}
-use borrow.Author.Tests.{le-leb, lt-leb, leb-true, leb-false, ne-eqb, eq-eqb, lt-ltb, le-ltb}
+use borrow.Author.Tests.{le-leb, lt-leb, ne-eqb, eq-eqb, lt-ltb, le-ltb}
 use lib.IntN.{pos}
 use lib.Dec.{leb, ltb, eqb}
 use lib.Pow.{pow-pos, pow-mono}
@@ -13,13 +13,7 @@ use lib.Ieee.{Float, nan, inf, fin, binary32, up, down, le, lt, eq, ofBits, ofFi
 use lib.Ieee.Exact.{HasValue, odd-sign}
 use lib.Ieee.Fits.{down-pos}
 use lib.Ieee.Order.{transfer}
-
-pub le-or-lt : (a b : ℕ) → (a ≤ b) ⊎ (b < a)
-le-or-lt a b = go (leb a b) refl
-  where
-    go : (t : Bool) → leb a b ≡ t → (a ≤ b) ⊎ (b < a)
-    go true e = inl (leb-true a b e)
-    go false e = inr (leb-false a b e)
+use Rattle.score.proofs.Cases.{le-or-lt}
 
 -- two tests are the same where each way of the one is that way of the other
 same-leb : (a b c d : ℕ) → (a ≤ b → c ≤ d) → (b < a → d < c) → leb a b ≡ leb c d
@@ -32,7 +26,7 @@ le-is-leb a b = ⊎-elim up-to (λ h. rw (le-ltb a b (omega arith), ne-eqb a b (
     up-to : a ≤ b → ltb a b || (eqb a b && true) ≡ leb a b
     up-to h = ⊎-elim (λ e. rw (le-ltb a b (omega arith), eq-eqb a b e, le-leb a b h)) (λ l. rw (lt-ltb a b l, le-leb a b h)) (eq-or-lt-of-le h)
 
-pub le-of-values : (x y : Float) (a b c : ℕ) → 0 < c → HasValue x false a c → HasValue y false b c → le x y ≡ leb a b
+le-of-values : (x y : Float) (a b c : ℕ) → 0 < c → HasValue x false a c → HasValue y false b c → le x y ≡ leb a b
 unfolding le lt eq
 le-of-values nan y a b c C p q = absurd p
 le-of-values (inf s) y a b c C p q = absurd p
@@ -55,7 +49,7 @@ abbrev pub size : ℕ → ℕ → ℕ
 size zero t = t * 2 ^ 0
 size (suc x) t = (2 ^ 23 + t) * 2 ^ x
 
-pub has-size : (s : Bool) (x t : ℕ) → x < 255 → HasValue (ofFields binary32 s x t) s (size x t) (2 ^ 149)
+has-size : (s : Bool) (x t : ℕ) → x < 255 → HasValue (ofFields binary32 s x t) s (size x t) (2 ^ 149)
 unfolding ofFields
 has-size s zero t h = odd-sign 24 s t 0 149
 has-size s (suc x) t h = rw (ne-eqb (suc x) 255 (λ e. omega arith)) (odd-sign 24 s (2 ^ 23 + t) x 149)

@@ -14,11 +14,12 @@ use Rattle.score.specs.Limits.{rowWithin}
 use Rattle.score.specs.Numbers.{success, refused, limitNumber, valueNumber}
 use Rattle.score.specs.Reading.{lineNumber, testLines}
 use Rattle.score.specs.Inner.{lineAt, Columns}
+use Rattle.score.proofs.Cases.{both}
 use Rattle.score.proofs.FirstLine.{some-line, no-line}
-use Rattle.score.proofs.Digits.{both, word-fits}
+use Rattle.score.proofs.Digits.{word-fits}
 use Rattle.score.proofs.Fields.{fieldBytes, Right, right}
 
-pub right-line : (count : ℕ) (text : List ℕ) → 0 < count → holdsWords count (firstOf (linesOf text)) ≡ true → Right count text
+right-line : (count : ℕ) (text : List ℕ) → 0 < count → holdsWords count (firstOf (linesOf text)) ≡ true → Right count text
 right-line zero text h e = absurd (omega arith)
 right-line (suc count) text h e = right count text e
 

@@ -14,7 +14,7 @@ use Rattle.score.specs.Numbers.{success, refused, rowsNumber, namesNumbe
 use Rattle.score.specs.Text.{bytes, split, Line, ended, unended, contents, linesOf, firstOf, fieldsOf, columnsOf, eachBelow, holdsNames, rowsOf}
 use Rattle.score.specs.Reading.{lineNumber, testLines, testText, textRows, refuse, store, scoreNames, mostRows, settleScore, readOf, editNames, editWords, settleEdits, readEditsOf}
 use Rattle.score.specs.Inner.{Headed, Columns}
-use Rattle.score.proofs.Digits.{both}
+use Rattle.score.proofs.Cases.{both}
 use Rattle.score.proofs.Rows.{unlimited, value}
 use Rattle.score.proofs.Storing.{not-both}
 

@@ -15,13 +15,13 @@ use Rattle.score.specs.Numbers.{success, refused}
 use Rattle.score.specs.Text.{Line, linesOf, restOf, holdsWords, rowOf, rowsOf}
 use Rattle.score.specs.Reading.{lineNumber, testLines}
 use Rattle.score.specs.Inner.{lineAt}
-use Rattle.score.proofs.Order.{le-or-lt}
+use Rattle.score.proofs.Cases.{le-or-lt}
 use Rattle.score.proofs.FirstLine.{some-line}
 use Rattle.score.proofs.Fields.{fieldBytes}
 use Rattle.score.proofs.Rows.{value, first-tested, none-left, next-line, line-fits, line-passes}
 
 -- ---- success
-same-count : (a b : ℕ) → success a ≡ success b → a ≡ b
+pub same-count : (a b : ℕ) → success a ≡ success b → a ≡ b
 same-count a b e = cc
 
 pub not-both : (a b n : ℕ) → refused a b ≡ success n → ⊥
@@ -57,7 +57,7 @@ module _ (count : ℕ) (columns text : List ℕ) (next lines : ℕ) (rows₀ : L
   stores i t = record { inside = i; upto = omega arith; place = omega arith; long = refl; tested = t; stored = refl; kept = refl }
 
   module _ (rows : List ℕ) (from base k : ℕ) (s : Stored count columns text next lines rows₀ rows from base k) (h : k < lines) where
-    pub line-there : from < length text
+    line-there : from < length text
     line-there =
         ⊎-elim
         (λ l. absurd (omega (arith, same-count k lines (sym (none-left count columns false text from k l) ∙ s .tested))))

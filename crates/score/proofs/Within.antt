@@ -1,7 +1,7 @@
 -- The limits, tested on words. A float's test from 0 to a limit is one comparison of its word with the limit's word, after -0 is taken for +0.
 use mathlib.Core.Path.{_≡_, refl, sym, ap, _∙_, subst}
 use mathlib.Core.Logic.{⊎-elim}
-use mathlib.Core.Bool.{Bool, true, false, _&&_, _||_, cond}
+use mathlib.Core.Bool.{true, false, _&&_, _||_, cond}
 use mathlib.Core.List.{List, [], _∷_}
 use lib.ListN.{take, drop, getD}
 use lib.Seq.{drop-drop, getD-take, getD-drop}
@@ -14,15 +14,12 @@ use lib.IntN.{pos}
 use lib.Ieee.{fin, binary32, ofBits, le}
 use Rattle.words.specs.Binary32.{decimal}
 use Rattle.score.specs.Limits.{rowWords, floatTo, limit, rowWithin, firstBad}
-use Rattle.score.proofs.Order.{le-or-lt, word-size, finite-word, words-order, past-finite, minus-zero, below-zero}
+use Rattle.score.proofs.Cases.{le-or-lt, and-false}
+use Rattle.score.proofs.Order.{word-size, finite-word, words-order, past-finite, minus-zero, below-zero}
 
 -- a word, with -0 taken for +0
 abbrev pub plain : ℕ → ℕ
 plain w = cond (eqb w 0x80000000) 0 w
-
-and-false : (b : Bool) → b && false ≡ false
-and-false true = refl
-and-false false = refl
 
 from-zero : (w : ℕ) → w < 0x7f800000 → le (fin false 0 (pos 0)) (ofBits binary32 w) ≡ true
 unfolding ofBits

@@ -8,6 +8,10 @@ use lib.Dec.{ltb, eqb}
 use Rattle.score.specs.declared.header.Header.{Header}
 use Rattle.score.specs.Text.{wordDigits, isWord, Line, linesOf, firstOf, restOf, columnsBy, holdsNames, eachBelow}
 
+-- The most names that a text can have: an edit's six.
+abbrev pub mostNames : ℕ
+mostNames = 6
+
 -- A text's first line was read against some names: `next` is 0 if it does not hold them, and otherwise where the second line starts.
 pub record Headed (names : List (List ℕ)) (text : List ℕ) (header : Header) : Type 0 where
   pub holds : holdsNames names (firstOf (linesOf text)) ≡ ltb 0 (header .next)

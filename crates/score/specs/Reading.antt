@@ -1,10 +1,11 @@
 -- Document 01, "Calls and their numbers" for the reader, and "The program `retake`" for the edits text: the refusals in their order, and what a call leaves.
-use Prim.Native.Nat.{ℕ, suc, _*_}
+use Prim.Native.Nat.{ℕ, suc, _*_, _≤_, _<_}
+use mathlib.Core.Path.{_≡_}
 use mathlib.Core.Bool.{Bool, true, false, not, _||_, cond}
 use mathlib.Core.List.{List, [], _∷_, _++_, map}
 use lib.ListN.{length, drop}
 use lib.Dec.{ltb, eqb}
-use Rattle.score.specs.Limits.{rowWords, Name, note, timbre, morph, harmonics, restart, rowNames, rowWithin}
+use Rattle.score.specs.Limits.{rowWords, Name, note, timbre, morph, harmonics, restart, rowNames, rowWithin, firstBad}
 use Rattle.score.specs.declared.reader.ReadAnswer.{ReadAnswer}
 use Rattle.score.specs.Numbers.{Result, resultOf, success, refused, rowsNumber, limitNumber, namesNumber, valueNumber, spaceNumber}
 use Rattle.score.specs.Text.{bytes, Line, linesOf, firstOf, restOf, columnsBy, holdsNames, holdsWords, rowOf, rowsOf}
@@ -78,6 +79,13 @@ settleScore (success count) rows lent =
 -- Reading a score.
 unfoldable pub readOf : List ℕ → List ℕ → Outcome
 readOf text lent = settleScore (testText scoreNames true (linesOf text)) (textRows scoreNames (linesOf text)) lent
+
+-- What an accepted score brings to rendering: rows that pass 6 and 9, in lent words enough for them.
+pub record Accepted (count : ℕ) (lent rows : List ℕ) : Type 0 where
+  pub some : 0 < count
+  pub few : count ≤ mostRows
+  pub space : rowWords * count ≤ length lent
+  pub good : firstBad count rows ≡ count
 
 -- ---- edits
 

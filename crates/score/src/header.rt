@@ -8,9 +8,9 @@ ghost use mathlib.Core.Path.{_≡_};
 ghost use Prim.Native.Nat.{_≤_};
 ghost use lib.ListN.{length, take};
 ghost use Rattle.score.specs.Text.{fieldsOf, columnsOf, eachBelow};
-ghost use Rattle.score.specs.Inner.{Headed};
+ghost use Rattle.score.specs.Inner.{mostNames, Headed};
 
-// The most names that a text can have.
+// The most names that a text can have: an edit's six.
 pub const MOST_NAMES: usize = 6;
 
 // Where the line after the names starts, 0 if the first line does not hold them; and the column of each name, in the names' order.
@@ -21,7 +21,7 @@ pub struct Header {
 
 // The column on a line of each of the names, which stand in `names` with one space between.
 fn columns_of(line: &[u8], names: &[u8]) -> [usize; MOST_NAMES]
-    requires { ⌜ length (fieldsOf (now names)) ≤ 6 ⌝ }
+    requires { ⌜ length (fieldsOf (now names)) ≤ mostNames ⌝ }
     ensures { λ r. ⌜ columnsOf (fieldsOf (now (names .entry))) (fieldsOf (now (line .entry))) ≡ take (length (fieldsOf (now (names .entry)))) r ⌝ }
 {
     let mut columns = [0; MOST_NAMES];
@@ -38,7 +38,7 @@ fn columns_of(line: &[u8], names: &[u8]) -> [usize; MOST_NAMES]
 
 // Each of the first `count` columns is below `count`.
 fn each_below(columns: [usize; MOST_NAMES], count: usize) -> bool
-    requires { ⌜ count ≤ 6 ⌝ }
+    requires { ⌜ count ≤ mostNames ⌝ }
     ensures { λ r. ⌜ r ≡ eachBelow count (take count columns) ⌝ }
 {
     let mut i = 0;
@@ -53,7 +53,7 @@ fn each_below(columns: [usize; MOST_NAMES], count: usize) -> bool
 
 // A text's first line, read against the names, which stand in `names` with one space between.
 pub fn read_names(text: &[u8], names: &[u8]) -> Header
-    requires { ⌜ length (fieldsOf (now names)) ≤ 6 ⌝ }
+    requires { ⌜ length (fieldsOf (now names)) ≤ mostNames ⌝ }
     ensures { λ r. ⌜ Headed (fieldsOf (now (names .entry))) (now (text .entry)) r ⌝ }
 {
     let end = piece_end(text, 0, LF);

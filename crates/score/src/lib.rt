@@ -1,7 +1,8 @@
-// The score side's lowest layer: the limits of a row's words, and the reader of score texts.
-pub mod header;
+// The score side's lowest layer: the limits of a row's words, and the reader of score and edits texts.
+mod header;
 pub mod limits;
-pub mod lines;
-pub mod pieces;
+mod lines;
+pub mod numbers;
+mod pieces;
 pub mod reader;
-pub mod word;
+mod word;

@@ -2,6 +2,8 @@
 use crate::header::MOST_NAMES;
 use crate::limits::ROW_WORDS;
 use crate::limits::row_within;
+use crate::numbers::LIMIT;
+use crate::numbers::VALUE;
 use crate::pieces::LF;
 use crate::pieces::SPACE;
 use crate::word::WORD_DIGITS;
@@ -14,15 +16,10 @@ ghost use lib.ListN.{length, take, drop};
 ghost use Rattle.score.specs.Limits.{rowWords, rowWithin};
 ghost use Rattle.score.specs.Text.{holdsWords, rowOf};
 ghost use Rattle.score.specs.Reading.{lineNumber};
-ghost use Rattle.score.specs.Inner.{startsWord, lineAt, Columns};
+ghost use Rattle.score.specs.Inner.{mostNames, startsWord, lineAt, Columns};
 
 // A word and the byte after it.
 pub const FIELD: usize = WORD_DIGITS + 1;
-
-// Refusals of a line, by document 01's table.
-pub const LIMIT: u32 = 9;
-
-pub const VALUE: u32 = 11;
 
 // A word stands at `at`, and `after` is the byte after it.
 fn word_then(text: &[u8], at: usize, after: u8) -> bool
@@ -56,7 +53,7 @@ fn holds_words(text: &[u8], from: usize, count: usize) -> bool
 pub fn write_row(text: &[u8], from: usize, columns: &[usize; MOST_NAMES], row: &mut [u32])
     requires { ⌜ Columns (now columns) (length (now row)) ⌝ }
     requires { ⌜ holdsWords (length (now row)) (lineAt (now text) from) ≡ true ⌝ }
-    requires { ⌜ length (now row) ≤ 6 ⌝ }
+    requires { ⌜ length (now row) ≤ mostNames ⌝ }
     ensures { λ _. ⌜ now (row .exit) ≡ rowOf (take (length (now (row .entry))) (now (columns .entry))) (lineAt (now (text .entry)) from) ⌝ }
 {
     let mut k = 0;

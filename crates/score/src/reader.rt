@@ -5,6 +5,9 @@ use crate::limits::ROW_WORDS;
 use crate::lines::FIELD;
 use crate::lines::line_number;
 use crate::lines::write_row;
+use crate::numbers::NAMES;
+use crate::numbers::ROWS;
+use crate::numbers::SPACE;
 ghost use mathlib.Core.Path.{_≡_};
 ghost use mathlib.Core.Bool.{true, false};
 ghost use mathlib.Core.List.{_++_};
@@ -14,7 +17,7 @@ ghost use Rattle.score.specs.Limits.{rowWords};
 ghost use Rattle.score.specs.Numbers.{success, resultOf};
 ghost use Rattle.score.specs.Text.{linesOf, rowsOf};
 ghost use Rattle.score.specs.Reading.{testLines, store, outcome, readOf, readEditsOf};
-ghost use Rattle.score.specs.Inner.{Columns};
+ghost use Rattle.score.specs.Inner.{mostNames, Columns};
 
 // What reading a text gives.
 pub enum ReadAnswer {
@@ -23,13 +26,6 @@ pub enum ReadAnswer {
     // A refusal's number and place.
     Refused(u32, usize),
 }
-
-// Refusals of a text, by document 01's table.
-pub const ROWS: u32 = 6;
-
-pub const NAMES: u32 = 10;
-
-pub const SPACE: u32 = 12;
 
 // The most rows of a score.
 pub const MOST_ROWS: usize = 4096;
@@ -72,7 +68,7 @@ fn write_rows(
     lines: usize,
     rows: &mut [u32],
 )
-    requires { ⌜ (next ≤ length (now text)) × (count ≤ 6) ⌝ }
+    requires { ⌜ (next ≤ length (now text)) × (count ≤ mostNames) ⌝ }
     requires { ⌜ Columns (now columns) count ⌝ }
     requires { ⌜ testLines count (take count (now columns)) false 0 (linesOf (drop next (now text))) ≡ success lines ⌝ }
     requires { ⌜ count * lines ≤ length (now rows) ⌝ }
@@ -99,7 +95,7 @@ fn store_rows(
     lines: usize,
     rows: &mut [u32],
 ) -> ReadAnswer
-    requires { ⌜ (next ≤ length (now text)) × (count ≤ 6) ⌝ }
+    requires { ⌜ (next ≤ length (now text)) × (count ≤ mostNames) ⌝ }
     requires { ⌜ Columns (now columns) count ⌝ }
     requires { ⌜ testLines count (take count (now columns)) false 0 (linesOf (drop next (now text))) ≡ success lines ⌝ }
     ensures { λ r. ⌜ outcome r (now (rows .exit)) ≡ store count lines (rowsOf (take count (now (columns .entry))) (linesOf (drop next (now (text .entry))))) (now (rows .entry)) ⌝ }

@@ -13,7 +13,7 @@ use Rattle.take.specs.declared.Answer.the-variants.{Done, Refused}
 use Rattle.take.specs.Take.{Settings, Take, Run, counted, outcome, ran, rowCount, rowAt, putRow, same, runOf, atEnd, atStop, lentNumber, positionNumber, limitRefusal, scoreRefusal, refusalOf, renderRefusal, editRefusal, renderOf, editOf}
 use Rattle.take.specs.Rooms.{Fit}
 use Rattle.take.proofs.Limits.{put-long}
-use Rattle.take.proofs.Refusals.{Right, right}
+use Rattle.take.proofs.Refusals.{Usable, usable}
 
 -- What is accepted is refused by no test.
 pub refusal-none : (number : ℕ) (next : Refusal) → refusalOf number next .number ≡ 0 → (number ≡ 0) × (next .number ≡ 0)
@@ -38,9 +38,9 @@ module _ (s : Settings) (rows : List ℕ) (t : Take) where
     render-refused h = simp (sym e, ne-eqb (r .number) 0 h)
 
     module _ (z : r .number ≡ 0) where
-      pub render-right : Right s rows t
+      pub render-right : Usable s rows t
       unfolding renderRefusal
-      render-right = right s rows t (refusal-none (lentNumber s rows t) (limitRefusal rows) (ap (λ (x : Refusal). x .number) (sym e) ∙ z) .0)
+      render-right = usable s rows t (refusal-none (lentNumber s rows t) (limitRefusal rows) (ap (λ (x : Refusal). x .number) (sym e) ∙ z) .0)
 
       pub render-done : (n held : ℕ) (left : Take) → counted n held left ≡ runOf (atEnd (rowCount rows)) s rows (rowCount rows - 0) 0 t
           → outcome (Done n held) rows left ≡ renderOf s rows t
@@ -59,8 +59,8 @@ module _ (s : Settings) (rows : List ℕ) (t : Take) where
       unfolding editRefusal
       none = refusal-none (lentNumber s rows t) (scoreRefusal rows k row) (ap (λ (x : Refusal). x .number) (sym e) ∙ z)
 
-      pub edit-right : Right s rows t
-      edit-right = right s rows t (none .0)
+      pub edit-right : Usable s rows t
+      edit-right = usable s rows t (none .0)
 
       pub edit-below : k < rowCount rows
       edit-below = score-none rows k row (none .1)

@@ -84,7 +84,7 @@ lengths-right frames rows out aux kept e =
 
 -- ---- What a run may count on.
 
-pub record Right (s : Settings) (rows : List ℕ) (t : Take) : Type 0 where
+pub record Usable (s : Settings) (rows : List ℕ) (t : Take) : Type 0 where
   pub lent : Lent (s .bank) (s .map)
   pub fit : Fit (s .frames) (rowCount rows) rows (t .out) (t .aux) (t .kept)
   pub some : 0 < rowCount rows
@@ -96,12 +96,12 @@ map-lengths i m e = go (eqb i terrainWithMap) e
     go true q = inr q
     go false q = inl q
 
-pub right : (s : Settings) (rows : List ℕ) (t : Take) → lentNumber s rows t ≡ 0 → Right s rows t
+pub usable : (s : Settings) (rows : List ℕ) (t : Take) → lentNumber s rows t ≡ 0 → Usable s rows t
 unfolding lentNumber
-right s rows t e = go (settingsNumber (s .instrument) (s .rate) (s .frames) (length (s .bank)) (length (s .map))) refl e
+usable s rows t e = go (settingsNumber (s .instrument) (s .rate) (s .frames) (length (s .bank)) (length (s .map))) refl e
   where
     go : (m : ℕ) → m ≡ settingsNumber (s .instrument) (s .rate) (s .frames) (length (s .bank)) (length (s .map))
-        → cond (eqb m 0) (lengthsNumber (s .frames) (length rows) (length (t .out)) (length (t .aux)) (length (t .kept))) m ≡ 0 → Right s rows t
+        → cond (eqb m 0) (lengthsNumber (s .frames) (length rows) (length (t .out)) (length (t .aux)) (length (t .kept))) m ≡ 0 → Usable s rows t
     go zero q x =
         let a = settings-right (s .instrument) (s .rate) (s .frames) (length (s .bank)) (length (s .map)) (sym q) in
         let b = lengths-right (s .frames) (length rows) (length (t .out)) (length (t .aux)) (length (t .kept)) x in

@@ -16,7 +16,7 @@ use Rattle.take.specs.Take.{Settings, Take, Row, Run, Outcome, ran, idle
 use Rattle.take.specs.Retakes.{fresh, takeOf, keptIn, Edit, withRow, scoreOne, scoreAfter, edited, after, Outside, Stops, First, Right, EachRight, Demand3}
 use Rattle.take.proofs.Words.{same-eq, same-refl}
 use Rattle.take.proofs.Limits.{put-long, put-count}
-use Rattle.take.proofs.Refusals.{right}
+use Rattle.take.proofs.Refusals.{usable}
 use Rattle.take.proofs.Calls.{refusal-none, score-none}
 use Rattle.take.proofs.Parts.{put-outside, part-outside}
 use Rattle.take.proofs.Standing.{Sized, Made, Standing}
@@ -67,7 +67,7 @@ same-lengths s rows rows' t t' e z z' =
     rw (e, z .out-long, z .aux-long, z .kept-long, z' .out-long, z' .aux-long, z' .kept-long)
 
 sized-of : (s : Settings) (rows : List ℕ) (t : Take) → lentNumber s rows t ≡ 0 → Sized (s .frames) (rowCount rows) t
-sized-of s rows t e = let f = right s rows t e .fit in record { out-long = f .out-long; aux-long = f .aux-long; kept-long = f .kept-long }
+sized-of s rows t e = let f = usable s rows t e .fit in record { out-long = f .out-long; aux-long = f .aux-long; kept-long = f .kept-long }
 
 is-fresh : (s : Settings) (rows : List ℕ) (t : Take) → Stands s rows t → t ≡ takeOf (fresh s rows)
 is-fresh s rows t f = all-fresh s rows t (rowCount rows) (record { sized = f .sized; before = λ i h l. f .made i l; from = λ i h l. f .made i l })
@@ -81,7 +81,7 @@ module _ (s : Settings) (rows : List ℕ) (t : Take) (e : renderRefusal s rows t
 
   rendered-run : Rendered s rows 0 (runOf (atEnd (rowCount rows)) s rows (rowCount rows) 0 t)
   rendered-run =
-      let r = right s rows t lent-none in
+      let r = usable s rows t lent-none in
       let q : suc (rowCount rows - 1) ≡ rowCount rows = omega (arith, r .some) in
       subst (λ (l : ℕ). Rendered s rows 0 (runOf (atEnd (rowCount rows)) s rows l 0 t)) q
       (render-stands s rows (rowCount rows - 1) 0 t (omega (arith, r .some))
@@ -171,7 +171,7 @@ module _ (s : Settings) (rows : List ℕ) (t : Take) (e : Edit) (f : Stands s ro
       count = put-count rows (e .words) k (e .five) below
 
       elsewhere : Outside rowWords k (k + 1) rows rows'
-      elsewhere = put-outside rowWords (rowCount rows) k rows (e .words) (right s rows t (f .lent-right) .fit .rows-long) below (e .five)
+      elsewhere = put-outside rowWords (rowCount rows) k rows (e .words) (usable s rows t (f .lent-right) .fit .rows-long) below (e .five)
 
       -- The other rows are made as before.
       still-made : (i : ℕ) → (i < k) ⊎ (k + 1 ≤ i) → i < rowCount rows' → Made s rows' t i

@@ -4,8 +4,8 @@ ghost use Prim.Native.Nat.{_/_, _≤_, _<_};
 ghost use lib.ListN.{length};
 ghost use Rattle.score.specs.Limits.{rowWords, firstBad};
 ghost use Rattle.take.specs.Take.{settings, lent, mostFrames, putRow, mapLengthOf, settingsNumber, lengthsNumber, lentNumber, rowCount, renderRefusal, editRefusal};
-use crate::rows::KEPT_WORDS;
 use score::limits::ROW_WORDS;
+use voice::KEPT_WORDS;
 
 const MOST_ROWS: usize = 4096;
 

@@ -10,9 +10,7 @@ ghost use Rattle.take.specs.Take.{settings, lent, keptCount, mostRows, p
 ghost use Rattle.take.specs.Rooms.{RowDone, BlockRoom, mostHeld, Room, Fit};
 use score::limits::ROW_WORDS;
 use utils::engine::EngineParameters;
-
-// The words kept after a row.
-pub const KEPT_WORDS: usize = 13;
+use voice::KEPT_WORDS;
 
 // The places of a row's words.
 const NOTE: usize = 0;
@@ -350,9 +348,9 @@ pub fn run_rows(
     requires { ⌜ first < n ⌝ }
     ensures { λ r. ⌜ counted (r .rows) (r .held) (lent (now (out .exit)) (now (aux .exit)) (now (kept .exit))) ≡ runOf (endOf whole n (now (rows .entry))) (settings instrument rate frames (now (bank .entry)) (now (map .entry))) (now (rows .entry)) (n - first) first (lent (now (out .entry)) (now (aux .entry)) (now (kept .entry))) ⌝ }
 {
-    let sine = oscillator::sine::LUT_SINE;
-    let high = utils::units::LUT_PITCH_RATIO_HIGH;
-    let low = utils::units::LUT_PITCH_RATIO_LOW;
+    let sine = oscillator::sine::sine_table();
+    let high = utils::units::pitch_ratio_high();
+    let low = utils::units::pitch_ratio_low();
     let mut keys = [0; 128];
     let mut run_1 = [0.0; 256];
     let mut run_2 = [0.0; 256];

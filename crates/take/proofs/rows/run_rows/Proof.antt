@@ -1,18 +1,21 @@
 -- `run_rows` is `runOf`: the tables that it lends are the definitions' tables, entry by entry.
-use mathlib.Core.Path.{refl}
-use lib.Ieee.{ofBits, round, neg}
 use borrow.Author.Needs.{needs}
-use Rattle.words.specs.Binary32.{decimal}
-use Rattle.oscillator.specs.Sine.{lutSine}
-use Rattle.utils.specs.Units.{lutPitchRatioHigh, lutPitchRatioLow}
 use Rattle.take.proofs.rows.run_rows.Statement.{statement}
 use Rattle.take.proofs.rows.run_rows.Tie as tie
 
+sine-table-requires : tie.Need-sine-table-requires
+sine-table-requires c κs = search needs
+
+pitch-ratio-high-requires : tie.Need-pitch-ratio-high-requires
+pitch-ratio-high-requires c κs = search needs
+
+pitch-ratio-low-requires : tie.Need-pitch-ratio-low-requires
+pitch-ratio-low-requires c κs = search needs
+
 run-requires : tie.Need-run-requires
-unfolding lutSine lutPitchRatioHigh lutPitchRatioLow decimal round ofBits neg
 run-requires c κs =
-    let p = c .before .before .before .before .before .before .before .before .before .before .before .before .before .before .before .before .before .pre in
-    (p .0, (record { sine-is = refl; high-is = refl; low-is = refl }, p .1))
+    let p = c .before .before .before .before .before .before .before .before .before .before .before .before .before .before .before .before .before .before .before .before .pre in
+    (p .0, (record { sine-is = c .before .before .before .before .before .before .before .before .before .before .before .before .before .before .sine-table .ensures; high-is = c .before .before .before .before .before .before .before .before .before .before .before .before .before .pitch-ratio-high .ensures; low-is = c .before .before .before .before .before .before .before .before .before .before .before .before .pitch-ratio-low .ensures }, p .1))
 
 same-length : tie.Need-same-length
 same-length c = search needs
@@ -27,4 +30,4 @@ returns : tie.Need-returns
 returns c = search needs
 
 pub run-rows-spec : {M : Type 1} → statement M
-run-rows-spec = tie.close (tie.spec run-requires same-length same-length-2 same-length-3 returns)
+run-rows-spec = tie.close (tie.spec sine-table-requires pitch-ratio-high-requires pitch-ratio-low-requires run-requires same-length same-length-2 same-length-3 returns)

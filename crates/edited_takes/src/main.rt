@@ -1,0 +1,363 @@
+// Lists of edits on all three instruments. After the rendering and after each edit the take is compared, word by word, with one that is
+// rendered afresh into other words.
+ghost use Prim.Native.Nat.{_<_};
+use libc::STDOUT_FILENO;
+use take::Answer;
+
+const RATE: u32 = 48000;
+
+const FRAMES: usize = 6;
+
+// Whether two runs of words are the same.
+fn same(a: &[u32], b: &[u32]) -> bool {
+    if a.len() != b.len() {
+        return false;
+    }
+    let mut i = 0;
+    while i < a.len() {
+        if a[i] != b[i] {
+            return false;
+        }
+        i += 1;
+    }
+    true
+}
+
+// The next of a row of numbers below 2^31 that look random.
+fn following(x: u64) -> u64
+    requires { ⌜ x < 2147483648 ⌝ }
+    ensures { λ r. ⌜ r < 2147483648 ⌝ }
+{
+    (x * 1103515245 + 12345) % 2147483648
+}
+
+// A wave of a bank, from a number below 2^31.
+fn sample(x: u64) -> i16
+    requires { ⌜ x < 2147483648 ⌝ }
+{
+    let high = x / 65536;
+    high as i16
+}
+
+fn fill_bank(bank: &mut [i16]) {
+    let mut x = 1;
+    let mut i = 0;
+    while i < bank.len() {
+        x = following(x);
+        bank[i] = sample(x);
+        i += 1;
+    }
+}
+
+fn fill_map(map: &mut [u8]) {
+    let mut x = 2;
+    let mut i = 0;
+    while i < map.len() {
+        x = following(x);
+        map[i] = (x / 8388608) as u8;
+        i += 1;
+    }
+}
+
+fn show(a: Answer) {
+    match a {
+        Answer::Done(rows, held) => {
+            io::write_all(STDOUT_FILENO, b"done ");
+            io::print_decimal(STDOUT_FILENO, rows as u64);
+            io::write_all(STDOUT_FILENO, b" ");
+            io::print_decimal(STDOUT_FILENO, held as u64);
+        }
+        Answer::Refused(number, place) => {
+            io::write_all(STDOUT_FILENO, b"refused ");
+            io::print_decimal(STDOUT_FILENO, number as u64);
+            io::write_all(STDOUT_FILENO, b" ");
+            io::print_decimal(STDOUT_FILENO, place as u64);
+        }
+    }
+}
+
+// Compares a take with a fresh rendering of its score.
+fn compare(
+    instrument: u32,
+    bank: &[i16],
+    map: &[u8],
+    rows: &[u32],
+    out: &[u32],
+    aux: &[u32],
+    kept: &[u32],
+) {
+    let mut fresh_out = [0x12345678; 72];
+    let mut fresh_aux = [0x7fc00001; 72];
+    let mut fresh_kept = [0xffffffff; 156];
+    let _answer = take::render(
+        instrument,
+        RATE,
+        FRAMES,
+        bank,
+        map,
+        rows,
+        &mut fresh_out,
+        &mut fresh_aux,
+        &mut fresh_kept,
+    );
+    let words = same(out, &fresh_out);
+    if words {
+        io::write_all(STDOUT_FILENO, b" out");
+    }
+    let words = same(aux, &fresh_aux);
+    if words {
+        io::write_all(STDOUT_FILENO, b" aux");
+    }
+    let words = same(kept, &fresh_kept);
+    if words {
+        io::write_all(STDOUT_FILENO, b" kept");
+    }
+    io::write_all(STDOUT_FILENO, b"\n");
+}
+
+// An edit, shown and compared.
+fn turn(
+    instrument: u32,
+    bank: &[i16],
+    map: &[u8],
+    rows: &mut [u32],
+    position: usize,
+    row: [u32; 5],
+    out: &mut [u32],
+    aux: &mut [u32],
+    kept: &mut [u32],
+) {
+    show(take::edit(
+        instrument,
+        RATE,
+        FRAMES,
+        bank,
+        map,
+        rows,
+        position,
+        row,
+        out,
+        aux,
+        kept,
+    ));
+    compare(instrument, bank, map, rows, out, aux, kept);
+}
+
+// A row's number.
+fn place(w: u32) -> usize {
+    w as usize
+}
+
+// The edits of a list: for each a row's number and its five words.
+fn turns(
+    instrument: u32,
+    bank: &[i16],
+    map: &[u8],
+    edits: &[u32],
+    rows: &mut [u32],
+    out: &mut [u32],
+    aux: &mut [u32],
+    kept: &mut [u32],
+) {
+    let n = edits.len() / 6;
+    let mut i = 0;
+    while i < n {
+        let a = i * 6;
+        let row = [
+            edits[a + 1],
+            edits[a + 2],
+            edits[a + 3],
+            edits[a + 4],
+            edits[a + 5],
+        ];
+        turn(
+            instrument,
+            bank,
+            map,
+            rows,
+            place(edits[a]),
+            row,
+            out,
+            aux,
+            kept,
+        );
+        i += 1;
+    }
+}
+
+// A score of twelve rows on an instrument, and a list of edits: to a restart, past the end, outside a limit, to the end, with equal words,
+// with a restart taken out, outside another limit; then some after which the state is soon the same; then the last row.
+fn list(instrument: u32, bank: &[i16], map: &[u8]) {
+    let mut rows = [
+        0x42700000,
+        0x00000000,
+        0x3e800000,
+        0x3f000000,
+        0,
+        0x42700000,
+        0x3e800000,
+        0x3e800000,
+        0x3f000000,
+        0,
+        0x42700000,
+        0x3f000000,
+        0x3e800000,
+        0x3f000000,
+        0,
+        0x42700000,
+        0x3f000000,
+        0x3e800000,
+        0x3f000000,
+        0,
+        0x42400000,
+        0x3f000000,
+        0x3f400000,
+        0x3e000000,
+        1,
+        0x42400000,
+        0x3f000000,
+        0x3f400000,
+        0x3f400000,
+        0,
+        0x42000000,
+        0x00000000,
+        0x3e000000,
+        0x3f000000,
+        1,
+        0x42100000,
+        0x3e000000,
+        0x3f000000,
+        0x3e800000,
+        0,
+        0x42480000,
+        0x3e000000,
+        0x3f000000,
+        0x3f7fffff,
+        0,
+        0x42700000,
+        0x3f000000,
+        0x3f000000,
+        0x3f000000,
+        0,
+        0x42800000,
+        0x3f400000,
+        0x3f000000,
+        0x3f000000,
+        0,
+        0x42f00000,
+        0x3f800000,
+        0x3f800000,
+        0x3f7fffff,
+        0u32,
+    ];
+    let edits = [
+        2,
+        0x42700000,
+        0x3f400000,
+        0x3e800000,
+        0x3f000000,
+        0,
+        12,
+        0x42700000,
+        0x3f400000,
+        0x3e800000,
+        0x3f000000,
+        0,
+        1,
+        0x42700000,
+        0x3f800001,
+        0x3e800000,
+        0x3f000000,
+        0,
+        8,
+        0x42480000,
+        0x3e000000,
+        0x3f800000,
+        0x3f7fffff,
+        0,
+        8,
+        0x42480000,
+        0x3e000000,
+        0x3f800000,
+        0x3f7fffff,
+        0,
+        6,
+        0x42000000,
+        0x00000000,
+        0x3e000000,
+        0x3f000000,
+        0,
+        7,
+        0x42000000,
+        0x00000000,
+        0x3e000000,
+        0x3f000000,
+        2,
+        6,
+        0x42000000,
+        0x80000000,
+        0x3e000000,
+        0x3f000000,
+        0,
+        9,
+        0x42700001,
+        0x3f000000,
+        0x3f000000,
+        0x3f000000,
+        0,
+        8,
+        0x42480000,
+        0x3e000000,
+        0x3f800000,
+        0x3f800000,
+        0,
+        0,
+        0x42700000,
+        0x00000000,
+        0x3e800000,
+        0x3f000000,
+        1,
+        11,
+        0x42f00000,
+        0x3f800000,
+        0x3f800000,
+        0x3f800000,
+        0u32,
+    ];
+    let mut out = [0xdeadbeef; 72];
+    let mut aux = [0x7f800001; 72];
+    let mut kept = [0x80000000; 156];
+    show(take::render(
+        instrument,
+        RATE,
+        FRAMES,
+        bank,
+        map,
+        &rows,
+        &mut out,
+        &mut aux,
+        &mut kept,
+    ));
+    compare(instrument, bank, map, &rows, &out, &aux, &kept);
+    turns(
+        instrument,
+        bank,
+        map,
+        &edits,
+        &mut rows,
+        &mut out,
+        &mut aux,
+        &mut kept,
+    );
+}
+
+fn main() {
+    let mut bank = [0i16; 25344];
+    fill_bank(&mut bank);
+    let mut map = [0u8; 4096];
+    fill_map(&mut map);
+    let none = [0u8; 0];
+    list(0, &bank, &none);
+    list(1, &bank, &none);
+    list(2, &bank, &map);
+}

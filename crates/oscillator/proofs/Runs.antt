@@ -1,0 +1,33 @@
+-- A lent run that a loop fills keeps its length; what it then begins with is what the loop's frames give, since both are read alike at each entry.
+use mathlib.Core.Path.{_≡_, refl, sym, ap, _∙_}
+use mathlib.Core.List.{List}
+use Prim.Native.Nat.{ℕ, suc, _+_, _<_}
+use native.Mathlib.Numerals.{add-one}
+use lib.ListN.{length, getD, set, take, length-set}
+use lib.Seq.{length-take-le, getD-take, ext-getD}
+use Rattle.utils.specs.Frames.{stateAfter, eachOf}
+use Rattle.utils.proofs.Frames.{Filled, filled-none, filled-more, after-suc, each-length, each-at}
+
+-- a loop that carries a state, one turn on
+pub after-more : {S : Type 0} (next : S → S) (i : ℕ) (s₀ s t : S) → t ≡ next s → s ≡ stateAfter next i s₀ → t ≡ stateAfter next (i + 1) s₀
+after-more next i s₀ s t e h = rw (add-one, after-suc next i s₀) (e ∙ ap next h)
+
+-- a lent run, filled up to i: its first i entries are what f says of their places
+pub record Filling {A : Type 0} (f : ℕ → A) (d : A) (xs₀ xs : List A) (i : ℕ) : Type 0 where
+  pub long : length xs ≡ length xs₀
+  pub filled : Filled f d xs i
+
+module _ {A : Type 0} (f : ℕ → A) (d : A) where
+  pub filling-none : (xs : List A) → Filling f d xs xs 0
+  filling-none xs = record { long = refl; filled = filled-none f d xs }
+
+  pub filling-more : (xs₀ xs : List A) (i : ℕ) (v : A) → i < length xs₀ → v ≡ f i → Filling f d xs₀ xs i → Filling f d xs₀ (set xs i v) (i + 1)
+  filling-more xs₀ xs i v l e p =
+      record { long = length-set xs i v ∙ p .long; filled = filled-more f d xs i v (rw (p .long) l) e (p .filled) }
+
+module _ {S A : Type 0} (next : S → S) (f : S → A) (d : A) where
+  pub filled-run : (xs : List A) (n : ℕ) (s : S) → Filled (λ j. f (stateAfter next j s)) d xs n → take n xs ≡ eachOf next f n s
+  filled-run xs n s p =
+      let e : length (take n xs) ≡ n = length-take-le n xs (p .room) in
+      ext-getD d (take n xs) (eachOf next f n s) (e ∙ sym (each-length next f n s))
+      (λ j h. let l : j < n = rw e at h in getD-take n xs j d l ∙ p .done j l ∙ sym (each-at next f d n s j l))

@@ -1,0 +1,12 @@
+use mathlib.Core.Path.{refl}
+use lib.Ieee.{ofBits}
+use Rattle.words.specs.Binary32.{decimal}
+use Rattle.oscillator.proofs.sine_oscillator.FastSineOscillator.init.Statement.{statement}
+use Rattle.oscillator.proofs.sine_oscillator.FastSineOscillator.init.Tie as tie
+
+returns : tie.Need-returns
+unfolding ofBits decimal
+returns c = refl
+
+pub init-spec : {M : Type 1} → statement M
+init-spec = tie.close (tie.spec returns)

@@ -1,0 +1,35 @@
+-- The quadrature from its start, by what its start and its loop ensure.
+use mathlib.Core.Path.{ap, _∙_}
+use Rattle.utils.specs.Frames.{eachOf}
+use Rattle.oscillator.specs.Path.{
+  quadratureNext,
+  quadratureOut,
+  quadratureOut2,
+  pathAfter,
+}
+use borrow.Author.Needs.{needs}
+use Rattle.oscillator.proofs.sine_oscillator.FastSineOscillator.render_quadrature.Statement.{
+  statement,
+}
+use Rattle.oscillator.proofs.sine_oscillator.FastSineOscillator.render_quadrature.Tie as tie
+
+new-requires : tie.Need-new-requires
+new-requires c κs = search needs
+
+fill-requires : tie.Need-fill-requires
+fill-requires c κs = search needs
+
+returns : tie.Need-returns
+unfolding pathAfter
+returns c =
+    let n = c .before .before .before .before .args .n in
+    let start = c .before .before .before .new .ensures in (
+      rw (c .fill .ensures .0, start),
+      (
+        c .fill .ensures .1 .0 ∙ ap (eachOf quadratureNext quadratureOut n) start,
+        c .fill .ensures .1 .1 ∙ ap (eachOf quadratureNext quadratureOut2 n) start,
+      ),
+    )
+
+pub render-quadrature-spec : {M : Type 1} → statement M
+render-quadrature-spec = tie.close (tie.spec new-requires fill-requires returns)

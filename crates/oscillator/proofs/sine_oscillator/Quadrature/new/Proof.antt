@@ -1,0 +1,42 @@
+use Rattle.oscillator.specs.Path.{quadratureOf}
+use borrow.Author.Needs.{needs}
+use Rattle.oscillator.proofs.sine_oscillator.Quadrature.new.Statement.{statement}
+use Rattle.oscillator.proofs.sine_oscillator.Quadrature.new.Tie as tie
+
+limited-frequency-requires : tie.Need-limited-frequency-requires
+limited-frequency-requires c κs = search needs
+
+limited-amplitude-requires : tie.Need-limited-amplitude-requires
+limited-amplitude-requires c κs = search needs
+
+fast-2-sin-requires : tie.Need-fast-2-sin-requires
+fast-2-sin-requires c κs = search needs
+
+new-requires : tie.Need-new-requires
+new-requires c κs = search needs
+
+new-requires-2 : tie.Need-new-requires-2
+new-requires-2 c κs = search needs
+
+on-circle-requires : tie.Need-on-circle-requires
+on-circle-requires c κs = search needs
+
+on-circle-requires-2 : tie.Need-on-circle-requires-2
+on-circle-requires-2 c κs = search needs
+
+returns : tie.Need-returns
+unfolding quadratureOf
+returns c = rw (c .on-circle2 .ensures, c .before .on-circle .ensures, c .before .before .new2 .ensures, c .before .before .before .new .ensures, c .before .before .before .before .fast-2-sin .ensures, c .before .before .before .before .before .limited-amplitude .ensures, c .before .before .before .before .before .before .limited-frequency .ensures)
+
+pub new-spec : {M : Type 1} → statement M
+new-spec =
+    tie.close
+    (tie.spec
+    limited-frequency-requires
+    limited-amplitude-requires
+    fast-2-sin-requires
+    new-requires
+    new-requires-2
+    on-circle-requires
+    on-circle-requires-2
+    returns)

@@ -1,0 +1,13 @@
+use mathlib.Core.Path.{refl}
+use lib.Ieee.{ofBits}
+use Rattle.words.specs.Binary32.{decimal}
+use Rattle.oscillator.specs.Path.{fast2Sin}
+use Rattle.oscillator.proofs.sine_oscillator.fast_2_sin.Statement.{statement}
+use Rattle.oscillator.proofs.sine_oscillator.fast_2_sin.Tie as tie
+
+returns : tie.Need-returns
+unfolding fast2Sin ofBits decimal
+returns c = refl
+
+pub fast-2-sin-spec : {M : Type 1} → statement M
+fast-2-sin-spec = tie.close (tie.spec returns)

@@ -1,0 +1,211 @@
+// Reads the texts of standard input, and long ones that it makes itself, and writes what each reading left.
+// A text of standard input ends at the byte that says how it is read: `~` as a score into 20 words, `<` as one into 14, `@` as edits into 18.
+// An LF after that byte belongs to no text.
+use libc::STDIN_FILENO;
+use libc::STDOUT_FILENO;
+use score::reader::ReadAnswer;
+ghost use Prim.Native.Nat.{_≤_, _<_};
+ghost use lib.ListN.{length};
+
+// What stands in lent words before a call.
+const FILL: u32 = 0xaaaaaaaa;
+
+// 36 bytes of names and 45 for each line.
+const LONG_TEXT: usize = 36 + 45 * 4098;
+
+fn say(text: &[u8]) {
+    io::write_all(STDOUT_FILENO, text);
+}
+
+fn show_words(words: &[u32]) {
+    let mut i = 0;
+    while i < words.len() {
+        say(b" ");
+        io::print_hex(STDOUT_FILENO, wide(words[i]), 8);
+        i += 1;
+    }
+}
+
+fn wide(w: u32) -> u64 {
+    w as u64
+}
+
+fn kept(words: &[u32]) -> bool {
+    let mut i = 0;
+    while i < words.len() {
+        if words[i] != FILL {
+            return false;
+        }
+        i += 1;
+    }
+    true
+}
+
+// The answer's line; after a success each lent word, after a refusal whether they all are as they were.
+fn show(answer: ReadAnswer, words: &[u32]) {
+    match answer {
+        ReadAnswer::Read(count) => {
+            say(b"read ");
+            io::print_decimal(STDOUT_FILENO, count as u64);
+            show_words(words);
+        }
+        ReadAnswer::Refused(number, place) => {
+            say(b"refused ");
+            io::print_decimal(STDOUT_FILENO, number as u64);
+            say(b" ");
+            io::print_decimal(STDOUT_FILENO, place as u64);
+            if kept(words) {
+                say(b" kept");
+            } else {
+                say(b" changed");
+            }
+        }
+    }
+    say(b"\n");
+}
+
+fn run(text: &[u8], how: u8) {
+    if how == b'~' {
+        let mut rows = [FILL; 20];
+        let answer = score::reader::read(text, &mut rows);
+        show(answer, &rows);
+    } else if how == b'<' {
+        let mut rows = [FILL; 14];
+        let answer = score::reader::read(text, &mut rows);
+        show(answer, &rows);
+    } else {
+        let mut edits = [FILL; 18];
+        let answer = score::reader::read_edits(text, &mut edits);
+        show(answer, &edits);
+    }
+}
+
+// The first byte from `from` on that ends a text, or the input's end.
+fn text_end(input: &[u8], from: usize) -> usize
+    requires { ⌜ from ≤ length (now input) ⌝ }
+    ensures { λ r. ⌜ (from ≤ r) × (r ≤ length (now (input .entry))) ⌝ }
+{
+    let mut i = from;
+    while i < input.len() {
+        let b = input[i];
+        if b == b'~' || b == b'<' || b == b'@' {
+            return i;
+        }
+        i += 1;
+    }
+    i
+}
+
+// The start of the text after the one that ends at `end`.
+fn after(input: &[u8], end: usize) -> usize
+    requires { ⌜ end < length (now input) ⌝ }
+    ensures { λ r. ⌜ (end < r) × (r ≤ length (now (input .entry))) ⌝ }
+{
+    let next = end + 1;
+    if next < input.len() {
+        if input[next] == b'\n' {
+            return next + 1;
+        }
+    }
+    next
+}
+
+fn run_all(input: &[u8]) {
+    let mut from = 0;
+    while from < input.len() {
+        let end = text_end(input, from);
+        if end == input.len() {
+            return;
+        }
+        run(&input[from..end], input[end]);
+        from = after(input, end);
+    }
+}
+
+// Puts `part` into a text, as far as there is room, and gives the place after it.
+fn put(text: &mut [u8], at: usize, part: &[u8]) -> usize
+    requires { ⌜ at ≤ length (now text) ⌝ }
+    ensures { λ r. ⌜ r ≤ length (now (text .exit)) ⌝ }
+{
+    let mut i = 0;
+    let mut next = at;
+    while i < part.len() {
+        if next == text.len() {
+            return next;
+        }
+        text[next] = part[i];
+        next += 1;
+        i += 1;
+    }
+    next
+}
+
+fn put_lines(text: &mut [u8], at: usize, lines: usize) -> usize
+    requires { ⌜ at ≤ length (now text) ⌝ }
+    ensures { λ r. ⌜ r ≤ length (now (text .exit)) ⌝ }
+{
+    let mut k = 0;
+    let mut next = at;
+    while k < lines {
+        next = put(
+            text,
+            next,
+            b"42700000 3f000000 3f000000 3f000000 00000000\n",
+        );
+        k += 1;
+    }
+    next
+}
+
+// A score of `lines` equal lines and then `tail`, put into `text`: its length.
+fn long_text(text: &mut [u8], lines: usize, tail: &[u8]) -> usize
+    ensures { λ r. ⌜ r ≤ length (now (text .exit)) ⌝ }
+{
+    let names = put(text, 0, b"note timbre morph harmonics restart\n");
+    let values = put_lines(text, names, lines);
+    put(text, values, tail)
+}
+
+// Reads such a score into `words`, and shows the last of them.
+fn read_long(text: &mut [u8], lines: usize, tail: &[u8], words: &mut [u32]) {
+    let end = long_text(text, lines, tail);
+    let answer = score::reader::read(&text[..end], words);
+    match answer {
+        ReadAnswer::Read(_) => show_last(answer, words),
+        ReadAnswer::Refused(_, _) => show(answer, words),
+    }
+}
+
+fn show_last(answer: ReadAnswer, words: &[u32]) {
+    let count = words.len();
+    if count < 6 {
+        return;
+    }
+    show(answer, &words[count - 6..]);
+}
+
+// Reads such a score into words for all rows that a score can have, and one more.
+fn long(lines: usize, tail: &[u8]) {
+    let mut text = [0u8; LONG_TEXT];
+    let mut words = [FILL; 20481];
+    read_long(&mut text, lines, tail, &mut words);
+}
+
+// The same into one word less than those rows need.
+fn long_short(lines: usize) {
+    let mut text = [0u8; LONG_TEXT];
+    let mut words = [FILL; 20479];
+    read_long(&mut text, lines, b"", &mut words);
+}
+
+fn main() {
+    let mut input = [0u8; 32768];
+    let size = io::read_full(STDIN_FILENO, &mut input);
+    run_all(&input[..size]);
+    long(4097, b"");
+    long(4097, b"42700000 3f000000 3f000000 3f000000 0000000g\n");
+    long(4097, b"42700000 3f000000 3f000000 3f000000 00000002\n");
+    long(4095, b"42700000 3f000000 3f000000 3f000000 00000002\n");
+    long_short(4096);
+    long(4096, b"");
+}

@@ -1,0 +1,54 @@
+-- `voice::render` meets its contract.
+use borrow.Author.Needs.{needs}
+use Rattle.voice.proofs.Blocks.{wavetable-made, terrain-made}
+use Rattle.voice.proofs.render.Statement.{statement}
+use Rattle.voice.proofs.render.Tie as tie
+
+enum-known-state : tie.Need-enum-known-state
+enum-known-state c = search needs
+
+render-requires : tie.Need-render-requires
+render-requires c κs = search needs
+
+enum-known-state-2 : tie.Need-enum-known-state-2
+enum-known-state-2 c = search needs
+
+render-requires-2 : tie.Need-render-requires-2
+render-requires-2 c κs = search needs
+
+same-length : tie.Need-same-length
+same-length c = search needs
+
+same-length-2 : tie.Need-same-length-2
+same-length-2 c = search needs
+
+returns : tie.Need-returns
+returns c =
+    let s = c .before .before .before .before .before .before .before .before .before .before .before .before .before .before .before .before .before .before .before .before in
+    wavetable-made _ _ _ _ _ _ _ _ (s .pre .1 .0) _ _ _ _ _ (c .before .before .before .before .before .before .before .before .before .before .before .before .before .before .before .state .given .1) (c .before .before .before .before .before .render .ensures)
+
+same-length-3 : tie.Need-same-length-3
+same-length-3 c = search needs
+
+same-length-4 : tie.Need-same-length-4
+same-length-4 c = search needs
+
+returns-2 : tie.Need-returns-2
+returns-2 c =
+    let s = c .before .before .before .before .before .before .before .before .before .before .before .before .before .before .before .before .before .before .before .before in
+    terrain-made _ _ _ _ _ _ _ _ (s .pre .1 .0) _ _ _ _ _ (c .before .before .before .before .before .before .before .before .before .before .before .before .before .before .before .state2 .given .1) (c .before .before .before .before .before .render2 .ensures)
+
+pub render-spec : {M : Type 1} → statement M
+render-spec =
+    tie.close
+    (tie.spec
+    enum-known-state
+    render-requires
+    enum-known-state-2
+    render-requires-2
+    same-length
+    same-length-2
+    returns
+    same-length-3
+    same-length-4
+    returns-2)

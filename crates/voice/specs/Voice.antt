@@ -1,0 +1,107 @@
+-- Document 01, "Rows, states, retakes": the state of a voice, its kept words, and the block of a row.
+use Prim.Native.Nat.{ℕ}
+use mathlib.Core.Path.{_≡_}
+use mathlib.Core.Bool.{cond}
+use mathlib.Core.List.{List, [], _∷_}
+use lib.Dec.{eqb}
+use lib.IntN.{ℤ}
+use lib.ListN.{getD}
+use lib.Ieee.{Float, binary32, ofBits, toBits}
+use Rattle.utils.specs.Units.{lutPitchRatioHigh, lutPitchRatioLow}
+use Rattle.utils.specs.declared.engine.EngineParameters.{EngineParameters}
+use Rattle.oscillator.specs.Sine.{lutSine}
+use Rattle.wavetable_engine.specs.Wavetable.{fresh, rendered}
+use Rattle.wavetable_engine.specs.declared.WavetableEngine.{WavetableEngine}
+use Rattle.wave_terrain_engine.specs.declared.WaveTerrainEngine.{WaveTerrainEngine}
+use Rattle.wave_terrain_engine.specs.Block.{terrainFresh, terrainBlock}
+use Rattle.voice.specs.declared.State.{State}
+use Rattle.voice.specs.declared.State.the-variants.{Wavetable, Terrain}
+pub use Rattle.wave_terrain_engine.specs.Block.{Lent}
+
+-- The three tables, as they are lent.
+pub record Tables (sine high low : List Float) : Type 0 where
+  pub sine-is : sine ≡ lutSine
+  pub high-is : high ≡ lutPitchRatioHigh
+  pub low-is : low ≡ lutPitchRatioLow
+
+-- "0 wavetable, 1 terrain, 2 terrain with map".
+abbrev pub wavetableInstrument : ℕ
+wavetableInstrument = 0
+
+-- "The state is one of two voices, each carrying its own floats, and starts from the value that its type names as fresh."
+unfoldable pub freshState : ℕ → Float → State
+freshState instrument a0 = cond (eqb instrument wavetableInstrument) (Wavetable (fresh a0)) (Terrain terrainFresh)
+
+-- The word of a float: "Any NaN is written as 7fc00000 in out, aux and kept".
+abbrev word : Float → ℕ
+word x = toBits binary32 x
+
+-- "Kept after each row, 13 words. Wavetable: phase; pre x, y, z; lp x, y, z; previous x, y, z, f0; differentiator lp, previous.
+-- Terrain: path x, y, epsilon, amplitude; offset; terrain index; seven zeros."
+unfoldable pub keptWords : State → List ℕ
+keptWords (Wavetable s) =
+    word (s .phase)
+    ∷ word (s .«x_pre_lp»)
+    ∷ word (s .«y_pre_lp»)
+    ∷ word (s .«z_pre_lp»)
+    ∷ word (s .«x_lp»)
+    ∷ word (s .«y_lp»)
+    ∷ word (s .«z_lp»)
+    ∷ word (s .«previous_x»)
+    ∷ word (s .«previous_y»)
+    ∷ word (s .«previous_z»)
+    ∷ word (s .«previous_f0»)
+    ∷ word (s .«diff_out» .lp)
+    ∷ word (s .«diff_out» .previous)
+    ∷ []
+keptWords (Terrain s) =
+    word (s .path .x) ∷ word (s .path .y) ∷ word (s .path .epsilon) ∷ word (s .path .amplitude) ∷ word (s .offset) ∷ word (s .«terrain_idx») ∷ 0 ∷ 0 ∷ 0 ∷ 0 ∷ 0 ∷ 0 ∷ 0 ∷ []
+
+-- A kept word's float.
+abbrev float : List ℕ → ℕ → Float
+float kept i = ofBits binary32 (getD kept i 0)
+
+-- The state by 13 kept words, whatever they are; of a terrain's the last seven are no part.
+unfoldable pub wavetableOf : List ℕ → WavetableEngine
+wavetableOf kept =
+    record {
+      phase = float kept 0;
+      «x_pre_lp» = float kept 1;
+      «y_pre_lp» = float kept 2;
+      «z_pre_lp» = float kept 3;
+      «x_lp» = float kept 4;
+      «y_lp» = float kept 5;
+      «z_lp» = float kept 6;
+      «previous_x» = float kept 7;
+      «previous_y» = float kept 8;
+      «previous_z» = float kept 9;
+      «previous_f0» = float kept 10;
+      «diff_out» = record { lp = float kept 11; previous = float kept 12 };
+    }
+
+unfoldable pub terrainOf : List ℕ → WaveTerrainEngine
+terrainOf kept =
+    record {
+      path = record { x = float kept 0; y = float kept 1; epsilon = float kept 2; amplitude = float kept 3 };
+      offset = float kept 4;
+      «terrain_idx» = float kept 5;
+    }
+
+unfoldable pub stateOf : ℕ → List ℕ → State
+stateOf instrument kept = cond (eqb instrument wavetableInstrument) (Wavetable (wavetableOf kept)) (Terrain (terrainOf kept))
+
+-- What a block of n frames gives: its out and aux words, the next state, and its `held`.
+pub record Rendered : Type 0 where
+  pub out : List ℕ
+  pub aux : List ℕ
+  pub state : State
+  pub held : ℕ
+
+-- A block, made from a state and a row's parameters by the voice that the state is of.
+unfoldable pub blockOf : List ℤ → List ℕ → ℕ → EngineParameters → State → Rendered
+blockOf bank map n parameters (Wavetable s) =
+    let b = rendered bank lutPitchRatioHigh lutPitchRatioLow n parameters s in
+    record { out = b .out; aux = b .aux; state = Wavetable (b .state); held = b .held }
+blockOf bank map n parameters (Terrain s) =
+    let b = terrainBlock lutSine lutPitchRatioHigh lutPitchRatioLow bank map n parameters s in
+    record { out = b .out; aux = b .aux; state = Terrain (b .state); held = b .held }

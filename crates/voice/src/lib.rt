@@ -1,0 +1,220 @@
+// The state of a voice, its kept words, and the block of a row, for either voice.
+ghost use mathlib.Core.Path.{_≡_};
+ghost use Prim.Native.Nat.{_*_, _≤_, _<_};
+ghost use lib.ListN.{length};
+ghost use Rattle.voice.specs.Voice.{freshState, keptWords, wavetableOf, terrainOf, stateOf, blockOf, Lent, Tables};
+use oscillator::sine_oscillator::FastSineOscillator;
+use oscillator::wavetable_oscillator::Differentiator;
+use utils::engine::EngineParameters;
+use wave_terrain_engine::WaveTerrainEngine;
+use wavetable_engine::WavetableEngine;
+
+// The instrument that plays the wavetable voice; the others play the terrain voice.
+pub const WAVETABLE: u32 = 0;
+
+// The words that are kept of a state.
+pub const KEPT_WORDS: usize = 13;
+
+pub enum State {
+    Wavetable(WavetableEngine),
+    Terrain(WaveTerrainEngine),
+}
+
+// The state after a block, and its `held`.
+pub struct Block {
+    pub state: State,
+    pub held: usize,
+}
+
+// The fresh state of an instrument. `a0` is 55 divided by the rate.
+pub fn fresh(instrument: u32, a0: f32) -> State
+    ensures { λ r. ⌜ r ≡ freshState instrument a0 ⌝ }
+{
+    if instrument == WAVETABLE {
+        State::Wavetable(WavetableEngine::init(a0))
+    } else {
+        State::Terrain(WaveTerrainEngine::init())
+    }
+}
+
+// The words of a wavetable state.
+fn wavetable_words(s: WavetableEngine) -> [u32; KEPT_WORDS]
+    ensures { λ r. ⌜ r ≡ keptWords (State.Wavetable s) ⌝ }
+{
+    [
+        words::to_word(s.phase),
+        words::to_word(s.x_pre_lp),
+        words::to_word(s.y_pre_lp),
+        words::to_word(s.z_pre_lp),
+        words::to_word(s.x_lp),
+        words::to_word(s.y_lp),
+        words::to_word(s.z_lp),
+        words::to_word(s.previous_x),
+        words::to_word(s.previous_y),
+        words::to_word(s.previous_z),
+        words::to_word(s.previous_f0),
+        words::to_word(s.diff_out.lp),
+        words::to_word(s.diff_out.previous),
+    ]
+}
+
+// The words of a terrain state.
+fn terrain_words(s: WaveTerrainEngine) -> [u32; KEPT_WORDS]
+    ensures { λ r. ⌜ r ≡ keptWords (State.Terrain s) ⌝ }
+{
+    [
+        words::to_word(s.path.x),
+        words::to_word(s.path.y),
+        words::to_word(s.path.epsilon),
+        words::to_word(s.path.amplitude),
+        words::to_word(s.offset),
+        words::to_word(s.terrain_idx),
+        0,
+        0,
+        0,
+        0,
+        0,
+        0,
+        0,
+    ]
+}
+
+// The words that are kept of a state.
+pub fn kept_words(s: State) -> [u32; KEPT_WORDS]
+    ensures { λ r. ⌜ r ≡ keptWords s ⌝ }
+{
+    match s {
+        State::Wavetable(w) => wavetable_words(w),
+        State::Terrain(t) => terrain_words(t),
+    }
+}
+
+// The wavetable state by kept words.
+fn wavetable_of(kept: &[u32]) -> WavetableEngine
+    requires { ⌜ length (now kept) ≡ 13 ⌝ }
+    ensures { λ r. ⌜ r ≡ wavetableOf (now (kept .entry)) ⌝ }
+{
+    WavetableEngine {
+        phase: words::of_word(kept[0]),
+        x_pre_lp: words::of_word(kept[1]),
+        y_pre_lp: words::of_word(kept[2]),
+        z_pre_lp: words::of_word(kept[3]),
+        x_lp: words::of_word(kept[4]),
+        y_lp: words::of_word(kept[5]),
+        z_lp: words::of_word(kept[6]),
+        previous_x: words::of_word(kept[7]),
+        previous_y: words::of_word(kept[8]),
+        previous_z: words::of_word(kept[9]),
+        previous_f0: words::of_word(kept[10]),
+        diff_out: Differentiator {
+            lp: words::of_word(kept[11]),
+            previous: words::of_word(kept[12]),
+        },
+    }
+}
+
+// The terrain state by kept words.
+fn terrain_of(kept: &[u32]) -> WaveTerrainEngine
+    requires { ⌜ length (now kept) ≡ 13 ⌝ }
+    ensures { λ r. ⌜ r ≡ terrainOf (now (kept .entry)) ⌝ }
+{
+    WaveTerrainEngine {
+        path: FastSineOscillator {
+            x: words::of_word(kept[0]),
+            y: words::of_word(kept[1]),
+            epsilon: words::of_word(kept[2]),
+            amplitude: words::of_word(kept[3]),
+        },
+        offset: words::of_word(kept[4]),
+        terrain_idx: words::of_word(kept[5]),
+    }
+}
+
+// The state of an instrument by kept words.
+pub fn state_of(instrument: u32, kept: &[u32]) -> State
+    requires { ⌜ length (now kept) ≡ 13 ⌝ }
+    ensures { λ r. ⌜ r ≡ stateOf instrument (now (kept .entry)) ⌝ }
+{
+    if instrument == WAVETABLE {
+        State::Wavetable(wavetable_of(kept))
+    } else {
+        State::Terrain(terrain_of(kept))
+    }
+}
+
+// A row's block: one sample into each place of `out` and of `aux`. Tables and the arrays to work in are lent.
+pub fn render(
+    state: State,
+    parameters: EngineParameters,
+    bank: &[i16],
+    map: &[u8],
+    sine: &[f32; 641],
+    high: &[f32; 256],
+    low: &[f32; 256],
+    keys: &mut [u32; 128],
+    run_1: &mut [f32; 256],
+    run_2: &mut [f32; 256],
+    run_3: &mut [f32; 256],
+    run_4: &mut [f32; 256],
+    corners: &mut [f32; 1024],
+    out: &mut [u32],
+    aux: &mut [u32],
+) -> Block
+    requires { ⌜ Lent (now bank) (now map) ⌝ }
+    requires { ⌜ Tables (now sine) (now high) (now low) ⌝ }
+    requires { ⌜ 0 < length (now out) ⌝ }
+    requires { ⌜ length (now out) ≤ 128 ⌝ }
+    requires { ⌜ length (now aux) ≡ length (now out) ⌝ }
+    ensures { λ r. ⌜ r .state ≡ blockOf (now (bank .entry)) (now (map .entry)) (length (now (out .entry))) parameters state .state ⌝ }
+    ensures { λ r. ⌜ r .held ≡ blockOf (now (bank .entry)) (now (map .entry)) (length (now (out .entry))) parameters state .held ⌝ }
+    ensures { λ r. ⌜ r .held ≤ 4 * length (now (out .entry)) ⌝ }
+    ensures { λ _. ⌜ now (out .exit) ≡ blockOf (now (bank .entry)) (now (map .entry)) (length (now (out .entry))) parameters state .out ⌝ }
+    ensures { λ _. ⌜ now (aux .exit) ≡ blockOf (now (bank .entry)) (now (map .entry)) (length (now (out .entry))) parameters state .aux ⌝ }
+{
+    match state {
+        State::Wavetable(w) => {
+            let b = w.render(
+                parameters,
+                bank,
+                high,
+                low,
+                keys,
+                run_1,
+                run_2,
+                run_3,
+                run_4,
+                corners,
+                out,
+                aux,
+            );
+            let s = b.state;
+            Block {
+                state: State::Wavetable(s),
+                held: b.held,
+            }
+        }
+        State::Terrain(t) => {
+            let b = t.render(
+                parameters,
+                bank,
+                map,
+                sine,
+                high,
+                low,
+                keys,
+                run_1,
+                run_2,
+                run_3,
+                run_4,
+                corners,
+                out,
+                aux,
+            );
+            let s = b.state;
+            Block {
+                state: State::Terrain(s),
+                held: b.held,
+            }
+        }
+    }
+}

@@ -1,0 +1,36 @@
+use lib.Ieee.{ofBits}
+use Rattle.words.specs.Binary32.{decimal}
+use Rattle.wave_terrain_engine.specs.Block.{interpolatorsOf}
+use borrow.Author.Needs.{needs}
+use Rattle.wave_terrain_engine.proofs.WaveTerrainEngine.interpolators.Statement.{statement}
+use Rattle.wave_terrain_engine.proofs.WaveTerrainEngine.interpolators.Tie as tie
+
+new-requires : tie.Need-new-requires
+new-requires c κs = search needs
+
+num-terrains-requires : tie.Need-num-terrains-requires
+num-terrains-requires c κs = search needs
+
+float-of-u64-requires : tie.Need-float-of-u64-requires
+float-of-u64-requires c κs = search needs
+
+min-requires : tie.Need-min-requires
+min-requires c κs = search needs
+
+new-requires-2 : tie.Need-new-requires-2
+new-requires-2 c κs = search needs
+
+returns : tie.Need-returns
+unfolding interpolatorsOf ofBits decimal
+returns c = rw (c .new2 .ensures, c .before .min .ensures, c .before .before .before .float-of-u64 .ensures, c .before .before .before .before .num-terrains .ensures, c .before .before .before .before .before .new .ensures)
+
+pub interpolators-spec : {M : Type 1} → statement M
+interpolators-spec =
+    tie.close
+    (tie.spec
+    new-requires
+    num-terrains-requires
+    float-of-u64-requires
+    min-requires
+    new-requires-2
+    returns)

@@ -1,0 +1,15 @@
+use lib.Ieee.{ofBits}
+use Rattle.words.specs.Binary32.{decimal}
+use borrow.Author.Needs.{needs}
+use Rattle.wave_terrain_engine.proofs.frames.shifted_x.Statement.{statement}
+use Rattle.wave_terrain_engine.proofs.frames.shifted_x.Tie as tie
+
+abs-requires : tie.Need-abs-requires
+abs-requires c κs = search needs
+
+returns : tie.Need-returns
+unfolding ofBits decimal
+returns c = rw (c .abs .ensures)
+
+pub shifted-x-spec : {M : Type 1} → statement M
+shifted-x-spec = tie.close (tie.spec abs-requires returns)

@@ -1,0 +1,104 @@
+-- The height of each layer, an arm for each: past 7 there is only 8, and then there is a map.
+use mathlib.Core.Path.{_≡_}
+use Prim.Native.Nat.{ℕ, _≤_, zero-le}
+use Rattle.wave_terrain_engine.proofs.Layers.{map-there, map-layer, none-of-four}
+use borrow.Author.Needs.{needs}
+use Rattle.wave_terrain_engine.specs.Heights.{terrainOf}
+use Rattle.wave_terrain_engine.proofs.terrain.terrain.Statement.{statement}
+use Rattle.wave_terrain_engine.proofs.terrain.terrain.Tie as tie
+
+-- an arm of its own for each layer up to 7
+past-seven : (i : ℕ) → (((((((Unit {0} × (i ≡ 0 → ⊥)) × (i ≡ 1 → ⊥)) × (i ≡ 2 → ⊥)) × (i ≡ 3 → ⊥)) × (i ≡ 4 → ⊥)) × (i ≡ 5 → ⊥)) × (i ≡ 6 → ⊥)) × (i ≡ 7 → ⊥) → 8 ≤ i
+past-seven i r =
+    none-of-four 4 i
+    (none-of-four 0 i zero-le (r .0 .0 .0 .0 .0 .0 .0 .1) (r .0 .0 .0 .0 .0 .0 .1) (r .0 .0 .0 .0 .0 .1) (r .0 .0 .0 .0 .1))
+    (r .0 .0 .0 .1)
+    (r .0 .0 .1)
+    (r .0 .1)
+    (r .1)
+
+terrain-0-requires : tie.Need-terrain-0-requires
+terrain-0-requires c κs = search needs
+
+terrain-1-requires : tie.Need-terrain-1-requires
+terrain-1-requires c κs = search needs
+
+terrain-2-requires : tie.Need-terrain-2-requires
+terrain-2-requires c κs = search needs
+
+terrain-3-requires : tie.Need-terrain-3-requires
+terrain-3-requires c κs = search needs
+
+terrain-4-requires : tie.Need-terrain-4-requires
+terrain-4-requires c κs = search needs
+
+terrain-lookup-wt-requires : tie.Need-terrain-lookup-wt-requires
+terrain-lookup-wt-requires c κs = search needs
+
+terrain-lookup-wt-requires-2 : tie.Need-terrain-lookup-wt-requires-2
+terrain-lookup-wt-requires-2 c κs = search needs
+
+terrain-lookup-wt-requires-3 : tie.Need-terrain-lookup-wt-requires-3
+terrain-lookup-wt-requires-3 c κs = search needs
+
+terrain-lookup-requires : tie.Need-terrain-lookup-requires
+terrain-lookup-requires c κs = map-there _ _ _ (c .before .before .pre .0) (c .before .before .pre .1) (past-seven _ (c .match .rest))
+
+returns : tie.Need-returns
+unfolding terrainOf
+returns c = rw (c .before .match .keys1, c .terrain-0 .ensures)
+
+returns-2 : tie.Need-returns-2
+unfolding terrainOf
+returns-2 c = rw (c .before .match .keys2, c .terrain-1 .ensures)
+
+returns-3 : tie.Need-returns-3
+unfolding terrainOf
+returns-3 c = rw (c .before .match .keys3, c .terrain-2 .ensures)
+
+returns-4 : tie.Need-returns-4
+unfolding terrainOf
+returns-4 c = rw (c .before .match .keys4, c .terrain-3 .ensures)
+
+returns-5 : tie.Need-returns-5
+unfolding terrainOf
+returns-5 c = rw (c .before .match .keys5, c .terrain-4 .ensures)
+
+returns-6 : tie.Need-returns-6
+unfolding terrainOf
+returns-6 c = rw (c .before .match .keys6, c .terrain-lookup-wt .ensures)
+
+returns-7 : tie.Need-returns-7
+unfolding terrainOf
+returns-7 c = rw (c .before .match .keys7, c .terrain-lookup-wt2 .ensures)
+
+returns-8 : tie.Need-returns-8
+unfolding terrainOf
+returns-8 c = rw (c .before .match .keys8, c .terrain-lookup-wt3 .ensures)
+
+returns-9 : tie.Need-returns-9
+unfolding terrainOf
+returns-9 c = rw (map-layer (c .before .before .before .args .map .now) (c .before .before .before .args .terrain-index) (c .before .before .before .pre .1) (past-seven _ (c .before .match .rest)), c .terrain-lookup .ensures)
+
+pub terrain-spec : {M : Type 1} → statement M
+terrain-spec =
+    tie.close
+    (tie.spec
+    terrain-0-requires
+    terrain-1-requires
+    terrain-2-requires
+    terrain-3-requires
+    terrain-4-requires
+    terrain-lookup-wt-requires
+    terrain-lookup-wt-requires-2
+    terrain-lookup-wt-requires-3
+    terrain-lookup-requires
+    returns
+    returns-2
+    returns-3
+    returns-4
+    returns-5
+    returns-6
+    returns-7
+    returns-8
+    returns-9)

@@ -1,0 +1,40 @@
+use Rattle.wavetable_engine.specs.Wavetable.{partsOf}
+use Rattle.words.specs.Binary32.{decimal}
+use lib.Ieee.{ofBits}
+use borrow.Author.Needs.{needs}
+use Rattle.wavetable_engine.proofs.frames.parts_of.Statement.{statement}
+use Rattle.wavetable_engine.proofs.frames.parts_of.Tie as tie
+use Rattle.wavetable_engine.proofs.frames.parts_of.Reads as reads
+use Rattle.wavetable_engine.proofs.frames.parts_of.Lts as lts
+use Rattle.words.proofs.held_part.Reads as held-part-reads
+
+-- src/frames.rt:73:12
+held-part-requires : tie.Need-held-part-requires
+held-part-requires c κs = search needs
+
+-- src/frames.rt:74:12
+held-part-requires-2 : tie.Need-held-part-requires-2
+held-part-requires-2 c κs = search needs
+
+-- src/frames.rt:75:12
+held-part-requires-3 : tie.Need-held-part-requires-3
+held-part-requires-3 c κs = search needs
+
+-- src/frames.rt:76:16
+held-part-requires-4 : tie.Need-held-part-requires-4
+held-part-requires-4 c κs = search needs
+
+-- src/frames.rt:69:1
+returns : tie.Need-returns
+unfolding partsOf ofBits decimal
+returns c = cc
+
+pub parts-of-spec : {M : Type 1} → statement M
+parts-of-spec =
+    tie.close
+    (tie.spec
+    held-part-requires
+    held-part-requires-2
+    held-part-requires-3
+    held-part-requires-4
+    returns)

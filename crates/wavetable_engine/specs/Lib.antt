@@ -1,0 +1,2 @@
+pub mod Wavetable
+pub mod Stages

@@ -1,0 +1,267 @@
+-- Document 01, "Wavetable voice": `wavetable_engine.rs`, in its order.
+use Prim.Native.Nat.{ℕ, _+_, _-_, _*_, _%_}
+use mathlib.Core.Bool.{cond, _||_}
+use mathlib.Core.List.{List, [], _∷_}
+use lib.Dec.{leb, eqb}
+use lib.IntN.{ℤ, pos}
+use lib.ListN.{getD, drop}
+use lib.Ieee.{Float, nan, binary32, le, neg, toBits}
+use Rattle.words.specs.Binary32.{_⊕_, _⊖_, _⊗_, _⊘_, decimal}
+use Rattle.words.specs.Parts.{wholeFloat, wholeI32Float, partOf}
+use Rattle.words.specs.declared.Part.{Part}
+use Rattle.utils.specs.Utils.{clampOf, minOf, onePole}
+use Rattle.utils.specs.Units.{noteToFrequency}
+use Rattle.utils.specs.Interpolator.{interpolator, stepped}
+use Rattle.utils.specs.Frames.{stateAfter, eachOf, sumOf}
+use Rattle.utils.specs.declared.engine.EngineParameters.{EngineParameters}
+use Rattle.oscillator.specs.Readings.{interpolateWaveHermite, floatOfI16, differentiated}
+use Rattle.oscillator.specs.declared.wavetable_oscillator.Differentiator.{Differentiator}
+use Rattle.wavetable_engine.specs.declared.WavetableEngine.{WavetableEngine}
+use Rattle.wavetable_engine.specs.declared.SetUp.{SetUp}
+use Rattle.wavetable_engine.specs.declared.frames.Positions.{Positions}
+use Rattle.wavetable_engine.specs.declared.frames.Parts.{Parts}
+
+-- "Bank: 25,344 i16, lent, 192 waves of 132."
+abbrev pub bankLength : ℕ
+bankLength = 25344
+
+abbrev pub waves : ℕ
+waves = 192
+
+abbrev pub waveLength : ℕ
+waveLength = 132
+
+-- TABLE_SIZE: a period of a wave, which has four samples more; and as a float.
+abbrev pub tableSize : ℕ
+tableSize = 128
+
+abbrev pub tableSizeF : Float
+tableSizeF = decimal 128 0
+
+-- "Frames 0 or above 128" are refused.
+abbrev pub maxFrames : ℕ
+maxFrames = 128
+
+-- "where r is 101 for z = 3, else 1".
+abbrev pub spread : ℕ → ℕ
+spread z = cond (eqb z 3) 101 1
+
+-- "Wave number: ((x + 8y + 64z) times r) mod 192".
+unfoldable pub wave : ℕ → ℕ → ℕ → ℕ
+wave x y z = (x + y * 8 + z * 64) * spread z % waves
+
+-- "Levels fold: z from 4 to 7 becomes 7 - z."
+unfoldable pub foldLevel : ℕ → ℕ
+foldLevel z = cond (leb 4 z) (7 - z) z
+
+-- `read_wave`: a wave at a phase.
+unfoldable pub readWave : List ℤ → ℕ → ℕ → ℕ → ℕ → Float → Float
+readWave bank x y z phase fraction =
+    interpolateWaveHermite floatOfI16 (pos 0) (drop (wave x y z * waveLength) bank) phase fraction
+
+-- `clamp` of this file: x around 0.5, made steeper by `amount`.
+abbrev pub clampBy : Float → Float → Float
+clampBy x amount = clampOf ((x ⊖ decimal 5 1) ⊗ amount) (neg (decimal 5 1)) (decimal 5 1) ⊕ decimal 5 1
+
+-- A position, drawn towards a whole number. "Whole parts taken once a block, before its frames, have no top."
+unfoldable pub quantised : Float → Float → Float
+quantised x quantization =
+    let integral = wholeFloat x in
+    let fractional = x ⊖ integral in
+    integral ⊕ (fractional ⊕ quantization ⊗ (clampBy fractional (decimal 16 0) ⊖ fractional))
+
+-- What a block of `size` frames works out before them.
+unfoldable pub setUp : List Float → List Float → ℕ → EngineParameters → WavetableEngine → SetUp
+setUp high low size parameters s =
+    let f0 = noteToFrequency high low (parameters .note) (parameters .«a0_normalized») in
+    let x = onePole (s .«x_pre_lp») (parameters .timbre ⊗ decimal 69999 4) (decimal 2 1) in
+    let y = onePole (s .«y_pre_lp») (parameters .morph ⊗ decimal 69999 4) (decimal 2 1) in
+    let z = onePole (s .«z_pre_lp») (parameters .harmonics ⊗ decimal 69999 4) (decimal 5 2) in
+    let quantization = clampOf (z ⊖ decimal 3 0) (decimal 0 0) (decimal 1 0) in
+    record {
+      «x_pre_lp» = x;
+      «y_pre_lp» = y;
+      «z_pre_lp» = z;
+      «lp_coefficient» = clampOf (decimal 2 0 ⊗ f0 ⊗ (decimal 4 0 ⊖ decimal 3 0 ⊗ quantization)) (decimal 1 2) (decimal 1 1);
+      start =
+          record {
+            phase = s .phase;
+            «x_lp» = s .«x_lp»;
+            «y_lp» = s .«y_lp»;
+            «z_lp» = s .«z_lp»;
+            x = interpolator (s .«previous_x») (quantised x quantization) size;
+            y = interpolator (s .«previous_y») (quantised y quantization) size;
+            z = interpolator (s .«previous_z») (quantised z quantization) size;
+            f0 = interpolator (s .«previous_f0») f0 size;
+          };
+    }
+
+-- ---- a frame
+
+-- The phase one frame on.
+abbrev pub advanced : Float → Float → Float
+advanced phase f0 = cond (le (decimal 1 0) (phase ⊕ f0)) (phase ⊕ f0 ⊖ decimal 1 0) (phase ⊕ f0)
+
+-- The parameters, the smoothed x, y and z, and the phase one frame on.
+unfoldable pub moved : Float → Positions → Positions
+moved lp s =
+    record {
+      phase = advanced (s .phase) (stepped (s .f0) .value);
+      «x_lp» = onePole (s .«x_lp») (stepped (s .x) .value) lp;
+      «y_lp» = onePole (s .«y_lp») (stepped (s .y) .value) lp;
+      «z_lp» = onePole (s .«z_lp») (stepped (s .z) .value) lp;
+      x = stepped (s .x);
+      y = stepped (s .y);
+      z = stepped (s .z);
+      f0 = stepped (s .f0);
+    }
+
+-- "tops: phase 127, x 7, y 7, z 6".
+abbrev pub phaseTop : ℕ
+phaseTop = 127
+
+abbrev pub xTop : ℕ
+xTop = 7
+
+abbrev pub yTop : ℕ
+yTop = 7
+
+abbrev pub zTop : ℕ
+zTop = 6
+
+-- "Positions (whole parts) have tops. A greater one is held at its top, and the fraction is taken against the held number."
+unfoldable pub partsOf : Positions → Parts
+partsOf s =
+    record {
+      x = partOf xTop (s .«x_lp»);
+      y = partOf yTop (s .«y_lp»);
+      z = partOf zTop (s .«z_lp»);
+      phase = partOf phaseTop (s .phase ⊗ tableSizeF);
+    }
+
+-- "A frame with any hold adds 1 to `held`."
+unfoldable pub heldOf : Parts → ℕ
+heldOf p = cond (p .x .held || p .y .held || p .z .held || p .phase .held) 1 0
+
+-- "Each frame takes the eight corner readings, two by two by two": by z, y, x.
+module _ (bank : List ℤ) (phase : ℕ) (fraction : Float) where
+  abbrev pub rowAt : ℕ → ℕ → ℕ → List Float
+  rowAt x y z = readWave bank x y z phase fraction ∷ readWave bank (x + 1) y z phase fraction ∷ []
+
+  abbrev pub levelAt : ℕ → ℕ → ℕ → List (List Float)
+  levelAt x y z = rowAt x y z ∷ rowAt x (y + 1) z ∷ []
+
+  unfoldable pub cornersAt : ℕ → ℕ → ℕ → List (List (List Float))
+  cornersAt x y z = levelAt x y (foldLevel z) ∷ levelAt x y (foldLevel (z + 1)) ∷ []
+
+-- Between two readings.
+abbrev pub mix : Float → Float → Float → Float
+mix a b t = a ⊕ (b ⊖ a) ⊗ t
+
+-- The corners, folded down axis by axis.
+abbrev pub foldZ : List Float → Float → Float
+foldZ c t = mix (getD c 0 nan) (getD c 1 nan) t
+
+abbrev pub foldY : List (List Float) → Float → List Float
+foldY c t = foldZ (getD c 0 []) t ∷ foldZ (getD c 1 []) t ∷ []
+
+abbrev pub foldX : List (List (List Float)) → Float → List (List Float)
+foldX c t = foldY (getD c 0 []) t ∷ foldY (getD c 1 []) t ∷ []
+
+-- What a frame reads: its corners, folded by the fractions of x, y and z.
+unfoldable pub reading : List ℤ → Parts → Float
+reading bank p =
+    let c = cornersAt bank (p .phase .whole) (p .phase .fraction) (p .x .whole) (p .y .whole) (p .z .whole) in
+    foldZ (foldY (foldX c (p .x .fraction)) (p .y .fraction)) (p .z .fraction)
+
+unfoldable pub gainOf : Float → Float
+gainOf f0 = (decimal 1 0 ⊘ (f0 ⊗ decimal 131072 0)) ⊗ (decimal 95 2 ⊖ f0)
+
+unfoldable pub cutoffOf : Float → Float
+cutoffOf f0 = minOf (tableSizeF ⊗ f0) (decimal 1 0)
+
+-- The aux sample: through the whole part to i32.
+unfoldable pub lofi : Float → Float
+lofi x = wholeI32Float (x ⊗ decimal 32 0) ⊘ decimal 32 0
+
+-- What goes from frame to frame.
+pub record Frame : Type 0 where
+  pub positions : Positions
+  pub «diff_out» : Differentiator
+
+-- What a frame leaves and gives.
+pub record Framed : Type 0 where
+  pub next : Frame
+  pub out : Float
+  pub aux : Float
+  pub held : ℕ
+
+-- A frame.
+unfoldable pub framed : List ℤ → Float → Frame → Framed
+framed bank lp s =
+    let positions = moved lp (s .positions) in
+    let f0 = positions .f0 .value in
+    let parts = partsOf positions in
+    let d = differentiated (s .«diff_out») (cutoffOf f0) (reading bank parts) in
+    let sample = d .sample ⊗ gainOf f0 in
+    record {
+      next = record { positions = positions; «diff_out» = d .next };
+      out = sample;
+      aux = lofi sample;
+      held = heldOf parts;
+    }
+
+-- ---- a block
+
+-- What a block leaves and gives; "Any NaN is written as 7fc00000".
+pub record Rendered : Type 0 where
+  pub state : WavetableEngine
+  pub held : ℕ
+  pub out : List ℕ
+  pub aux : List ℕ
+
+-- `render`: a block of `size` frames. The interpolators' end values go back to the state.
+unfoldable pub rendered : List ℤ → List Float → List Float → ℕ → EngineParameters → WavetableEngine → Rendered
+rendered bank high low size parameters s =
+    let m = setUp high low size parameters s in
+    let frame = framed bank (m .«lp_coefficient») in
+    let start : Frame = record { positions = m .start; «diff_out» = s .«diff_out» } in
+    let end = stateAfter (λ f. frame f .next) size start in
+    record {
+      state =
+          record {
+            phase = end .positions .phase;
+            «x_pre_lp» = m .«x_pre_lp»;
+            «y_pre_lp» = m .«y_pre_lp»;
+            «z_pre_lp» = m .«z_pre_lp»;
+            «x_lp» = end .positions .«x_lp»;
+            «y_lp» = end .positions .«y_lp»;
+            «z_lp» = end .positions .«z_lp»;
+            «previous_x» = end .positions .x .value;
+            «previous_y» = end .positions .y .value;
+            «previous_z» = end .positions .z .value;
+            «previous_f0» = end .positions .f0 .value;
+            «diff_out» = end .«diff_out»;
+          };
+      held = sumOf (λ f. frame f .next) (λ f. frame f .held) size start;
+      out = eachOf (λ f. frame f .next) (λ f. toBits binary32 (frame f .out)) size start;
+      aux = eachOf (λ f. frame f .next) (λ f. toBits binary32 (frame f .aux)) size start;
+    }
+
+-- The fresh state: `init`. "previous f0 is 55 / rate", the a0 that is handed in.
+abbrev pub fresh : Float → WavetableEngine
+fresh a0 =
+    record {
+      phase = decimal 0 0;
+      «x_pre_lp» = decimal 0 0;
+      «y_pre_lp» = decimal 0 0;
+      «z_pre_lp» = decimal 0 0;
+      «x_lp» = decimal 0 0;
+      «y_lp» = decimal 0 0;
+      «z_lp» = decimal 0 0;
+      «previous_x» = decimal 0 0;
+      «previous_y» = decimal 0 0;
+      «previous_z» = decimal 0 0;
+      «previous_f0» = a0;
+      «diff_out» = record { lp = decimal 0 0; previous = decimal 0 0 };
+    }

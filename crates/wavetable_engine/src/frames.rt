@@ -1,0 +1,190 @@
+// What goes from frame to frame: the positions, the differentiator, and the words.
+ghost use mathlib.Core.Path.{_≡_};
+ghost use Prim.Native.Nat.{_≤_};
+ghost use lib.ListN.{length, getD};
+ghost use lib.Ieee.{nan, binary32, toBits};
+ghost use Rattle.utils.proofs.Frames.{Filled};
+ghost use Rattle.wavetable_engine.specs.Wavetable.{maxFrames, advanced, moved, partsOf, heldOf, gainOf, cutoffOf, lofi};
+ghost use Rattle.wavetable_engine.specs.Stages.{PartsFit, keyOf, WalkedBy, sampleOf, differentiating};
+use oscillator::wavetable_oscillator::Differentiator;
+use utils::parameter_interpolator::ParameterInterpolator;
+use words::Part;
+
+// The phase, the smoothed x, y and z, and the four parameters on their way.
+pub struct Positions {
+    pub phase: f32,
+    pub x_lp: f32,
+    pub y_lp: f32,
+    pub z_lp: f32,
+    pub x: ParameterInterpolator,
+    pub y: ParameterInterpolator,
+    pub z: ParameterInterpolator,
+    pub f0: ParameterInterpolator,
+}
+
+// The positions' parts.
+pub struct Parts {
+    pub x: Part,
+    pub y: Part,
+    pub z: Part,
+    pub phase: Part,
+}
+
+// The positions after a block, and how many of its frames had a hold.
+pub struct Walked {
+    pub end: Positions,
+    pub held: usize,
+}
+
+// The phase one frame on.
+fn advance(phase: f32, f0: f32) -> f32
+    ensures { λ r. ⌜ r ≡ advanced phase f0 ⌝ }
+{
+    let next = phase + f0;
+    if next >= 1.0 { next - 1.0 } else { next }
+}
+
+// The positions one frame on.
+fn next(s: Positions, lp_coefficient: f32) -> Positions
+    ensures { λ r. ⌜ r ≡ moved «lp_coefficient» s ⌝ }
+{
+    let f0 = s.f0.next();
+    let x = s.x.next();
+    let y = s.y.next();
+    let z = s.z.next();
+    Positions {
+        phase: advance(s.phase, f0.value),
+        x_lp: utils::one_pole(s.x_lp, x.value, lp_coefficient),
+        y_lp: utils::one_pole(s.y_lp, y.value, lp_coefficient),
+        z_lp: utils::one_pole(s.z_lp, z.value, lp_coefficient),
+        x,
+        y,
+        z,
+        f0,
+    }
+}
+
+// Where a frame reads.
+fn parts_of(s: Positions) -> Parts
+    ensures { λ r. ⌜ r ≡ partsOf s ⌝ }
+{
+    Parts {
+        x: words::held_part(s.x_lp, crate::WavetableEngine::X_TOP),
+        y: words::held_part(s.y_lp, crate::WavetableEngine::Y_TOP),
+        z: words::held_part(s.z_lp, crate::WavetableEngine::Z_TOP),
+        phase: words::held_part(
+            s.phase * crate::TABLE_SIZE_F,
+            crate::WavetableEngine::PHASE_TOP,
+        ),
+    }
+}
+
+// 1 for a frame with any hold.
+fn held(p: Parts) -> usize
+    ensures { λ r. ⌜ r ≡ heldOf p ⌝ }
+{
+    if p.x.held || p.y.held || p.z.held || p.phase.held {
+        1
+    } else {
+        0
+    }
+}
+
+// The four whole parts in one number.
+fn key(p: Parts) -> u32
+    requires { ⌜ PartsFit p ⌝ }
+    ensures { λ r. ⌜ r ≡ keyOf p ⌝ }
+{
+    (p.x.whole + p.y.whole * 8 + p.z.whole * 64 + p.phase.whole * 512) as u32
+}
+
+pub fn walk(
+    start: Positions,
+    lp_coefficient: f32,
+    size: usize,
+    keys: &mut [u32],
+    xs: &mut [f32],
+    ys: &mut [f32],
+    zs: &mut [f32],
+    phases: &mut [f32],
+) -> Walked
+    requires { ⌜ (size ≤ maxFrames) × (size ≤ length (now keys)) ⌝ }
+    requires { ⌜ (size ≤ length (now xs)) × ((size ≤ length (now ys)) × ((size ≤ length (now zs)) × (size ≤ length (now phases)))) ⌝ }
+    ensures { λ r. ⌜ WalkedBy «lp_coefficient» start size r (now (keys .exit)) (now (xs .exit)) (now (ys .exit)) (now (zs .exit)) (now (phases .exit)) ⌝ }
+{
+    let mut s = start;
+    let mut count = 0;
+    let mut i = 0;
+    while i < size {
+        s = next(s, lp_coefficient);
+        let p = parts_of(s);
+        keys[i] = key(p);
+        xs[i] = p.x.fraction;
+        ys[i] = p.y.fraction;
+        zs[i] = p.z.fraction;
+        phases[i] = p.phase.fraction;
+        count += held(p);
+        i += 1;
+    }
+    Walked {
+        end: s,
+        held: count,
+    }
+}
+
+fn gain(f0: f32) -> f32
+    ensures { λ r. ⌜ r ≡ gainOf f0 ⌝ }
+{
+    (1.0 / (f0 * 131072.0)) * (0.95 - f0)
+}
+
+fn cutoff(f0: f32) -> f32
+    ensures { λ r. ⌜ r ≡ cutoffOf f0 ⌝ }
+{
+    utils::min(crate::TABLE_SIZE_F * f0, 1.0)
+}
+
+pub fn differentiate_all(
+    diff_out: Differentiator,
+    f0: ParameterInterpolator,
+    size: usize,
+    mixes: &[f32; 256],
+    samples: &mut [f32],
+) -> Differentiator
+    requires { ⌜ (size ≤ maxFrames) × (size ≤ length (now samples)) ⌝ }
+    ensures { λ r. ⌜ r ≡ differentiating (now (mixes .entry)) size (record { «diff_out» = «diff_out»; f0 = f0 }) .«diff_out» ⌝ }
+    ensures { λ _. ⌜ Filled (λ j. sampleOf (getD (now (mixes .entry)) j nan) (differentiating (now (mixes .entry)) j (record { «diff_out» = «diff_out»; f0 = f0 }))) nan (now (samples .exit)) size ⌝ }
+{
+    let mut d = diff_out;
+    let mut f = f0;
+    let mut i = 0;
+    while i < size {
+        f = f.next();
+        let s = d.process(cutoff(f.value), mixes[i]);
+        samples[i] = s.sample * gain(f.value);
+        d = s.next;
+        i += 1;
+    }
+    d
+}
+
+// A sample in 5 bits.
+fn lofi(x: f32) -> f32
+    ensures { λ r. ⌜ r ≡ lofi x ⌝ }
+{
+    words::whole_i32_float(x * 32.0) / 32.0
+}
+
+pub fn words_all(samples: &[f32; 256], out: &mut [u32], aux: &mut [u32])
+    requires { ⌜ (length (now out) ≤ maxFrames) × (length (now aux) ≡ length (now out)) ⌝ }
+    ensures { λ _. ⌜ Filled (λ j. toBits binary32 (getD (now (samples .entry)) j nan)) 0 (now (out .exit)) (length (now (out .entry))) ⌝ }
+    ensures { λ _. ⌜ Filled (λ j. toBits binary32 (lofi (getD (now (samples .entry)) j nan))) 0 (now (aux .exit)) (length (now (out .entry))) ⌝ }
+{
+    let mut i = 0;
+    while i < out.len() {
+        let x = samples[i];
+        out[i] = words::to_word(x);
+        aux[i] = words::to_word(lofi(x));
+        i += 1;
+    }
+}
