@@ -1,0 +1,38 @@
+-- `retake_c::retake_edit` meets its contract.
+use borrow.Author.Needs.{needs}
+use Rattle.retake_c.proofs.Returning.{call-returns}
+use Rattle.retake_c.proofs.retake_edit.Statement.{statement}
+use Rattle.retake_c.proofs.retake_edit.Tie as tie
+
+edit-requires : tie.Need-edit-requires
+edit-requires c κs = search needs
+
+values-of-requires : tie.Need-values-of-requires
+values-of-requires c κs = search needs
+
+same-length : tie.Need-same-length
+same-length c = search needs
+
+same-length-2 : tie.Need-same-length-2
+same-length-2 c = search needs
+
+same-length-3 : tie.Need-same-length-3
+same-length-3 c = search needs
+
+same-length-4 : tie.Need-same-length-4
+same-length-4 c = search needs
+
+returns : tie.Need-returns
+returns c = call-returns _ _ _ _ _ _ _ (c .values-of .ensures) (c .before .before .before .before .before .before .before .before .before .edit .ensures)
+
+pub retake-edit-spec : {M : Type 1} → statement M
+retake-edit-spec =
+    tie.close
+    (tie.spec
+    edit-requires
+    values-of-requires
+    same-length
+    same-length-2
+    same-length-3
+    same-length-4
+    returns)

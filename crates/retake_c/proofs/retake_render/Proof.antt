@@ -1,0 +1,28 @@
+-- `retake_c::retake_render` meets its contract.
+use borrow.Author.Needs.{needs}
+use Rattle.retake_c.proofs.Returning.{call-returns}
+use Rattle.retake_c.proofs.retake_render.Statement.{statement}
+use Rattle.retake_c.proofs.retake_render.Tie as tie
+
+render-requires : tie.Need-render-requires
+render-requires c κs = search needs
+
+values-of-requires : tie.Need-values-of-requires
+values-of-requires c κs = search needs
+
+same-length : tie.Need-same-length
+same-length c = search needs
+
+same-length-2 : tie.Need-same-length-2
+same-length-2 c = search needs
+
+same-length-3 : tie.Need-same-length-3
+same-length-3 c = search needs
+
+returns : tie.Need-returns
+returns c = call-returns _ _ _ _ _ _ _ (c .values-of .ensures) (c .before .before .before .before .before .before .before .render .ensures)
+
+pub retake-render-spec : {M : Type 1} → statement M
+retake-render-spec =
+    tie.close
+    (tie.spec render-requires values-of-requires same-length same-length-2 same-length-3 returns)

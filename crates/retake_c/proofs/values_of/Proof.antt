@@ -1,0 +1,22 @@
+-- `retake_c::values_of` meets its contract.
+use borrow.Author.Needs.{needs}
+use Rattle.take.specs.Take.{resultOf}
+use Rattle.retake_c.proofs.values_of.Statement.{statement}
+use Rattle.retake_c.proofs.values_of.Tie as tie
+
+enum-known-answer : tie.Need-enum-known-answer
+enum-known-answer c = search needs
+
+enum-known-answer-2 : tie.Need-enum-known-answer-2
+enum-known-answer-2 c = search needs
+
+returns : tie.Need-returns
+unfolding resultOf
+returns c = rw (c .before .answer .given .1)
+
+returns-2 : tie.Need-returns-2
+unfolding resultOf
+returns-2 c = rw (c .before .answer2 .given .1)
+
+pub values-of-spec : {M : Type 1} → statement M
+values-of-spec = tie.close (tie.spec enum-known-answer enum-known-answer-2 returns returns-2)

@@ -1,0 +1,12 @@
+-- `retake_lib::no_edits` meets its contract.
+use mathlib.Core.Path.{refl}
+use Rattle.retake_lib.specs.Program.{zeros}
+use Rattle.retake_lib.proofs.no_edits.Statement.{statement}
+use Rattle.retake_lib.proofs.no_edits.Tie as tie
+
+returns : tie.Need-returns
+unfolding zeros
+returns c = refl
+
+pub no-edits-spec : {M : Type 1} → statement M
+no-edits-spec = tie.close (tie.spec returns)

@@ -1,0 +1,12 @@
+-- `retake_lib::no_rows` meets its contract.
+use mathlib.Core.Path.{refl}
+use Rattle.retake_lib.specs.Program.{zeros}
+use Rattle.retake_lib.proofs.no_rows.Statement.{statement}
+use Rattle.retake_lib.proofs.no_rows.Tie as tie
+
+returns : tie.Need-returns
+unfolding zeros
+returns c = refl
+
+pub no-rows-spec : {M : Type 1} → statement M
+no-rows-spec = tie.close (tie.spec returns)

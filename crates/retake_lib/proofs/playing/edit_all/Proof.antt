@@ -1,0 +1,66 @@
+-- `retake_lib::playing::edit_all` meets its contract.
+use borrow.Author.Needs.{needs}
+use native.Mathlib.Omega.{arith}
+use Prim.Native.Nat.{_-_}
+use Rattle.retake_lib.specs.Program.{settingsWith}
+use Rattle.take.specs.Take.{lent}
+use Rattle.retake_lib.proofs.Editing.{Left, begins, goes-on, ends, Same}
+use Rattle.retake_lib.proofs.playing.edit_all.Statement.{statement}
+use Rattle.retake_lib.proofs.playing.edit_all.Tie as tie
+
+abbrev Inv-loop : tie.InvT-loop
+Inv-loop bank edits count rows₀ out₀ aux₀ kept₀ printed₀ at end₀ k₀ rows out aux kept printed end k = Same rows₀ out₀ aux₀ kept₀ printed₀ rows out aux kept printed × Left (settingsWith bank) edits count rows₀ (lent out₀ aux₀ kept₀) printed₀ at rows (lent out aux kept) printed end k
+
+abbrev μ-loop : tie.MeasureT-loop
+μ-loop bank edits count rows₀ out₀ aux₀ kept₀ printed₀ at end₀ k₀ rows out aux kept printed end k = count - k
+
+loop-holds : tie.Need-loop-holds Inv-loop μ-loop
+loop-holds c = (search needs, begins _ _ _ _ _ _ _)
+
+edit-requires : tie.Need-edit-requires Inv-loop μ-loop
+edit-requires c κs = (omega (arith, c .before .before .before .before .before .before .loop .inv .1 .most), omega (arith, c .before .before .before .before .before .before .loop .inv .1 .done-most, c .before .before .before .before .before .before .loop .inv .1 .written .end-is, c .before .before .before .before .before .before .loop .inv .0 .printed-long))
+
+add-k : tie.Need-add-k Inv-loop μ-loop
+add-k c = search needs
+
+loop-less : tie.Need-loop-less Inv-loop μ-loop
+loop-less c = search needs
+
+loop-again : tie.Need-loop-again Inv-loop μ-loop
+loop-again c = (search needs, goes-on _ _ _ _ _ _ _ _ _ _ _ _ (c .before .before .before .before .before .before .before .before .before .before .before .before .before .before .before .before .before .loop .inv .1) _ _ _ _ (c .before .before .before .before .before .before .before .before .before .before .before .before .before .before .before .before .loop-test .taken) (omega arith) (c .before .before .before .before .before .before .before .before .before .before .edit .ensures))
+
+same-length : tie.Need-same-length Inv-loop μ-loop
+same-length c = search needs
+
+same-length-2 : tie.Need-same-length-2 Inv-loop μ-loop
+same-length-2 c = search needs
+
+same-length-3 : tie.Need-same-length-3 Inv-loop μ-loop
+same-length-3 c = search needs
+
+same-length-4 : tie.Need-same-length-4 Inv-loop μ-loop
+same-length-4 c = search needs
+
+same-length-5 : tie.Need-same-length-5 Inv-loop μ-loop
+same-length-5 c = search needs
+
+returns : tie.Need-returns Inv-loop μ-loop
+returns c = ends _ _ _ _ _ _ _ _ _ _ _ _ (c .before .loop .inv .1) (search needs)
+
+pub edit-all-spec : {M : Type 1} → statement M
+edit-all-spec =
+    tie.close
+    (tie.spec
+    Inv-loop
+    μ-loop
+    loop-holds
+    edit-requires
+    add-k
+    loop-less
+    loop-again
+    same-length
+    same-length-2
+    same-length-3
+    same-length-4
+    same-length-5
+    returns)

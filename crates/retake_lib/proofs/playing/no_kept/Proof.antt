@@ -1,0 +1,12 @@
+-- `retake_lib::playing::no_kept` meets its contract.
+use mathlib.Core.Path.{refl}
+use Rattle.retake_lib.specs.Program.{zeros}
+use Rattle.retake_lib.proofs.playing.no_kept.Statement.{statement}
+use Rattle.retake_lib.proofs.playing.no_kept.Tie as tie
+
+returns : tie.Need-returns
+unfolding zeros
+returns c = refl
+
+pub no-kept-spec : {M : Type 1} → statement M
+no-kept-spec = tie.close (tie.spec returns)

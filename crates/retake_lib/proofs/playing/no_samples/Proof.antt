@@ -1,0 +1,12 @@
+-- `retake_lib::playing::no_samples` meets its contract.
+use mathlib.Core.Path.{refl}
+use Rattle.retake_lib.specs.Program.{zeros}
+use Rattle.retake_lib.proofs.playing.no_samples.Statement.{statement}
+use Rattle.retake_lib.proofs.playing.no_samples.Tie as tie
+
+returns : tie.Need-returns
+unfolding zeros
+returns c = refl
+
+pub no-samples-spec : {M : Type 1} → statement M
+no-samples-spec = tie.close (tie.spec returns)
