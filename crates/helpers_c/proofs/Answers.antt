@@ -6,8 +6,8 @@ use native.Mathlib.Numerals.{add-one}
 use native.Mathlib.Omega.{arith}
 use lib.ListN.{length, set, length-set}
 use lib.Ieee.{binary32, ofBits}
-use Rattle.utils.specs.Frames.{stateAfter}
-use Rattle.utils.proofs.Frames.{after-suc, each-length, each-at, Filled, filled-none, filled-more, filled-all}
+use Rattle.utils.specs.Frames.{stateAfter, Filled}
+use Rattle.utils.proofs.Frames.{after-suc, each-length, each-at, filled-none, filled-more, filled-all}
 use Rattle.helpers_c.specs.Helpers.{answerAt, nextWord, answersFrom}
 
 -- the answer at place j

@@ -1,12 +1,12 @@
 -- A lent run that a loop fills keeps its length; what it then begins with is what the loop's frames give, since both are read alike at each entry.
 use mathlib.Core.Path.{_≡_, refl, sym, ap, _∙_}
 use mathlib.Core.List.{List}
-use Prim.Native.Nat.{ℕ, suc, _+_, _<_}
+use Prim.Native.Nat.{ℕ, _+_, _<_}
 use native.Mathlib.Numerals.{add-one}
-use lib.ListN.{length, getD, set, take, length-set}
+use lib.ListN.{length, set, take, length-set}
 use lib.Seq.{length-take-le, getD-take, ext-getD}
-use Rattle.utils.specs.Frames.{stateAfter, eachOf}
-use Rattle.utils.proofs.Frames.{Filled, filled-none, filled-more, after-suc, each-length, each-at}
+use Rattle.utils.specs.Frames.{stateAfter, eachOf, Filled}
+use Rattle.utils.proofs.Frames.{filled-none, filled-more, after-suc, each-length, each-at}
 
 -- a loop that carries a state, one turn on
 pub after-more : {S : Type 0} (next : S → S) (i : ℕ) (s₀ s t : S) → t ≡ next s → s ≡ stateAfter next i s₀ → t ≡ stateAfter next (i + 1) s₀

@@ -7,7 +7,7 @@ use native.Mathlib.Omega.{arith}
 use lib.ListN.{length, getD, set, length-set}
 use lib.Seq.{getD-set-same, getD-set-other, ext-getD}
 use borrow.Author.Count.{below-more}
-use Rattle.utils.specs.Frames.{stateAfter, eachOf, sumOf}
+use Rattle.utils.specs.Frames.{stateAfter, eachOf, sumOf, Filled}
 
 module _ {S : Type 0} (next : S → S) where
   pub after-suc : (n : ℕ) (s : S) → stateAfter next (suc n) s ≡ next (stateAfter next n s)
@@ -44,11 +44,7 @@ module _ {S : Type 0} (next : S → S) where
   part-after part step h zero s = refl
   part-after part step h (suc n) s = part-after part step h n (next s) ∙ ap (stateAfter step n) (h s)
 
--- ---- a list that a loop fills from the front: the first i entries are what f says of their places
-pub record Filled {A : Type 0} (f : ℕ → A) (d : A) (xs : List A) (i : ℕ) : Type 0 where
-  pub room : i ≤ length xs
-  pub done : (j : ℕ) → j < i → getD xs j d ≡ f j
-
+-- ---- lists that a loop fills from the front
 module _ {A : Type 0} (f : ℕ → A) (d : A) where
   pub filled-none : (xs : List A) → Filled f d xs 0
   filled-none xs = record { room = zero-le; done = λ j h. absurd (not-suc-le-zero h) }

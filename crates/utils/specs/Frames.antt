@@ -1,6 +1,8 @@
 -- A block of frames, for any voice: each frame is made from the state that the frame before it left.
-use Prim.Native.Nat.{ℕ, zero, suc, _+_}
+use Prim.Native.Nat.{ℕ, zero, suc, _+_, _≤_, _<_}
+use mathlib.Core.Path.{_≡_}
 use mathlib.Core.List.{List, [], _∷_}
+use lib.ListN.{length, getD}
 
 module _ {S : Type 0} (next : S → S) where
   -- The state after n frames.
@@ -17,3 +19,8 @@ module _ {S : Type 0} (next : S → S) where
   unfoldable pub sumOf : (S → ℕ) → ℕ → S → ℕ
   sumOf f zero s = 0
   sumOf f (suc n) s = f s + sumOf f n (next s)
+
+-- A list that a loop fills from the front: the first i entries are what f says of their places.
+pub record Filled {A : Type 0} (f : ℕ → A) (d : A) (xs : List A) (i : ℕ) : Type 0 where
+  pub room : i ≤ length xs
+  pub done : (j : ℕ) → j < i → getD xs j d ≡ f j

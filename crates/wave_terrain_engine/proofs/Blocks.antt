@@ -10,8 +10,8 @@ use lib.Seq.{ext-getD}
 use lib.Ieee.{Float, nan, binary32, toBits}
 use Rattle.words.proofs.Parts.{held-most}
 use Rattle.utils.specs.Interpolator.{stepped}
-use Rattle.utils.specs.Frames.{stateAfter, eachOf, sumOf}
-use Rattle.utils.proofs.Frames.{Filled, part-after, each-length, each-at}
+use Rattle.utils.specs.Frames.{stateAfter, eachOf, sumOf, Filled}
+use Rattle.utils.proofs.Frames.{part-after, each-length, each-at}
 use Rattle.words.specs.Binary32.{_⊗_}
 use Rattle.utils.specs.Units.{noteToFrequency}
 use Rattle.utils.specs.declared.engine.EngineParameters.{EngineParameters}

@@ -6,8 +6,8 @@ use native.Mathlib.Omega.{arith}
 use lib.IntN.{ℤ}
 use lib.ListN.{length, getD}
 use lib.Ieee.{Float, nan, binary32, toBits}
-use Rattle.utils.specs.Frames.{stateAfter, eachOf, sumOf}
-use Rattle.utils.proofs.Frames.{after-suc, each-length, each-at, sum-most, part-after, Filled, filled-all}
+use Rattle.utils.specs.Frames.{stateAfter, eachOf, sumOf, Filled}
+use Rattle.utils.proofs.Frames.{after-suc, each-length, each-at, sum-most, part-after, filled-all}
 use Rattle.oscillator.specs.declared.wavetable_oscillator.Differentiator.{Differentiator}
 use Rattle.utils.specs.declared.engine.EngineParameters.{EngineParameters}
 use Rattle.wavetable_engine.specs.declared.WavetableEngine.{WavetableEngine}

@@ -2,21 +2,19 @@
 use mathlib.Core.Path.{_≡_, sym, ap, _∙_, subst}
 use mathlib.Core.List.{List, [], _∷_}
 use Prim.Native.Nat.{ℕ, _+_, _/_, _%_}
-use native.Mathlib.Nat.{add-assoc}
 use native.Mathlib.Omega.{arith}
-use lib.IntN.{ℤ}
+use lib.IntN.{ℤ, pos}
 use lib.ListN.{drop}
-use lib.Seq.{getD-drop}
 use lib.Ieee.{Float}
-use Rattle.oscillator.specs.Readings.{interpolateWaveHermite}
+use Rattle.oscillator.specs.Readings.{floatOfI16}
 use Rattle.wavetable_engine.specs.declared.readings.Places.{Places}
 use Rattle.wavetable_engine.specs.Wavetable.{readWave, levelAt, cornersAt, foldLevel}
 use Rattle.wavetable_engine.specs.Stages.{placesOfLevel, placesOf, readAt, readLevel, LevelFits}
+use Rattle.oscillator.proofs.Readings.{hermite-part}
 use Rattle.wavetable_engine.proofs.Waves.{wave-below}
 
 from-place : (bank : List ℤ) (k p : ℕ) (f : Float) → readAt bank (k + p) f ≡ readAt (drop k bank) p f
-unfolding interpolateWaveHermite
-from-place bank k p f = simp (getD-drop, add-assoc)
+from-place bank k p f = sym (hermite-part floatOfI16 (pos 0) bank k p f)
 
 level-read : (bank : List ℤ) (x y z p : ℕ) (f : Float) → readLevel bank (placesOfLevel x y z) p f ≡ levelAt bank p f x y z
 unfolding placesOfLevel readWave

@@ -5,7 +5,8 @@ use Prim.Native.Nat.{ℕ, _+_, _<_}
 use native.Mathlib.Numerals.{add-one}
 use lib.ListN.{length, getD, set}
 use lib.Ieee.{Float, nan}
-use Rattle.utils.proofs.Frames.{Filled, filled-none, filled-more}
+use Rattle.utils.specs.Frames.{Filled}
+use Rattle.utils.proofs.Frames.{filled-none, filled-more}
 use Rattle.wavetable_engine.specs.Stages.{Differentiating, differentiate, differentiating, sampleOf}
 
 -- the sample of frame j

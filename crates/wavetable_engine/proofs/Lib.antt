@@ -7,5 +7,3 @@ pub mod Walking
 pub mod Keys
 pub mod Composed
 pub mod Bench
-pub mod Lower
-pub mod Held

@@ -8,8 +8,8 @@ use native.Mathlib.Omega.{arith}
 use lib.ListN.{length, set, length-set}
 use lib.Ieee.{Float, nan}
 use Rattle.words.proofs.Parts.{part-most}
-use Rattle.utils.specs.Frames.{stateAfter, sumOf}
-use Rattle.utils.proofs.Frames.{Filled, filled-none, filled-more, after-suc, sum-suc}
+use Rattle.utils.specs.Frames.{stateAfter, sumOf, Filled}
+use Rattle.utils.proofs.Frames.{filled-none, filled-more, after-suc, sum-suc}
 use Rattle.wavetable_engine.specs.declared.frames.Positions.{Positions}
 use Rattle.wavetable_engine.specs.declared.frames.Parts.{Parts}
 use Rattle.wavetable_engine.specs.Wavetable.{moved, partsOf, heldOf}

@@ -4,12 +4,10 @@ use mathlib.Core.Path.{_≡_}
 use mathlib.Core.List.{List, [], _∷_}
 use lib.IntN.{ℤ, pos}
 use lib.ListN.{getD, set}
-use mathlib.Core.Bool.{cond}
-use lib.Ieee.{Float, nan, lt}
-use Rattle.words.specs.Binary32.{_⊕_, _⊖_, _⊗_, decimal}
+use lib.Ieee.{Float, nan}
+use Rattle.words.specs.Binary32.{_⊗_}
 use Rattle.utils.specs.Interpolator.{stepped}
-use Rattle.utils.specs.Frames.{stateAfter, sumOf}
-use Rattle.utils.proofs.Frames.{Filled}
+use Rattle.utils.specs.Frames.{stateAfter, sumOf, Filled}
 use Rattle.utils.specs.declared.parameter_interpolator.ParameterInterpolator.{ParameterInterpolator}
 use Rattle.oscillator.specs.Readings.{interpolateWaveHermite, floatOfI16, differentiated}
 use Rattle.oscillator.specs.declared.wavetable_oscillator.Differentiator.{Differentiator}
@@ -160,11 +158,3 @@ sampleOf reading s = differentiated (s .«diff_out») (cutoffOf (stepped (s .f0)
 unfoldable pub differentiating : List Float → ℕ → Differentiating → Differentiating
 differentiating readings zero s = s
 differentiating readings (suc j) s = differentiate (getD readings j nan) (differentiating readings j s)
-
--- ---- whole parts
-
--- Rounded to a whole number by 2 ^ 23 added and taken off again, less 1 where that is above it: the whole part of a float from 0 to below 2 ^ 23.
-unfoldable pub lowerOf : Float → Float
-lowerOf y =
-    let r = y ⊕ decimal 8388608 0 ⊖ decimal 8388608 0 in
-    r ⊖ cond (lt y r) (decimal 1 0) (decimal 0 0)

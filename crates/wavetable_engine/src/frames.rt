@@ -3,7 +3,7 @@ ghost use mathlib.Core.Path.{_≡_};
 ghost use Prim.Native.Nat.{_≤_};
 ghost use lib.ListN.{length, getD};
 ghost use lib.Ieee.{nan, binary32, toBits};
-ghost use Rattle.utils.proofs.Frames.{Filled};
+ghost use Rattle.utils.specs.Frames.{Filled};
 ghost use Rattle.wavetable_engine.specs.Wavetable.{maxFrames, advanced, moved, partsOf, heldOf, gainOf, cutoffOf, lofi};
 ghost use Rattle.wavetable_engine.specs.Stages.{PartsFit, keyOf, WalkedBy, sampleOf, differentiating};
 use oscillator::wavetable_oscillator::Differentiator;
@@ -69,10 +69,10 @@ fn parts_of(s: Positions) -> Parts
     ensures { λ r. ⌜ r ≡ partsOf s ⌝ }
 {
     Parts {
-        x: crate::parts::part(s.x_lp, crate::WavetableEngine::X_TOP),
-        y: crate::parts::part(s.y_lp, crate::WavetableEngine::Y_TOP),
-        z: crate::parts::part(s.z_lp, crate::WavetableEngine::Z_TOP),
-        phase: crate::parts::part(
+        x: words::held_part(s.x_lp, crate::WavetableEngine::X_TOP),
+        y: words::held_part(s.y_lp, crate::WavetableEngine::Y_TOP),
+        z: words::held_part(s.z_lp, crate::WavetableEngine::Z_TOP),
+        phase: words::held_part(
             s.phase * crate::TABLE_SIZE_F,
             crate::WavetableEngine::PHASE_TOP,
         ),

@@ -18,7 +18,6 @@ use utils::engine::EngineParameters;
 use utils::parameter_interpolator::ParameterInterpolator;
 
 pub mod frames;
-pub mod parts;
 pub mod readings;
 
 // A period of a wave. In the bank, a wave has its first samples once more after its last.

@@ -4,7 +4,7 @@ ghost use Prim.Native.Nat.{_+_, _*_, _/_, _%_, _≤_, _<_};
 ghost use mathlib.Core.List.{[], _∷_};
 ghost use lib.ListN.{length};
 ghost use lib.Ieee.{nan};
-ghost use Rattle.utils.proofs.Frames.{Filled};
+ghost use Rattle.utils.specs.Frames.{Filled};
 ghost use Rattle.wavetable_engine.specs.Wavetable.{bankLength, waves, waveLength, tableSize, maxFrames, spread, wave, foldLevel, cornersAt, mix, foldX, foldY, foldZ};
 ghost use Rattle.wavetable_engine.specs.Stages.{KeysFit, LevelFits, placesOfLevel, placesOf, readAt, readLevel, CornersRead, stored, loaded, mixAt};
 use oscillator::wavetable_oscillator::interpolate_wave_hermite;

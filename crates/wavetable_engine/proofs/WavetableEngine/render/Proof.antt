@@ -2,58 +2,41 @@
 use mathlib.Core.Path.{_∙_}
 use native.Mathlib.Omega.{arith}
 use lib.ListN.{length}
-use Rattle.wavetable_engine.proofs.Composed.{keys-fit, Staged, set-up-by, state-is, held-is, held-fits, out-is, aux-is}
 use borrow.Author.Needs.{needs}
+use Rattle.wavetable_engine.proofs.Composed.{keys-fit, Staged, set-up-by, state-is, held-is, held-fits, out-is, aux-is}
 use Rattle.wavetable_engine.proofs.WavetableEngine.render.Statement.{statement}
 use Rattle.wavetable_engine.proofs.WavetableEngine.render.Tie as tie
-use Rattle.wavetable_engine.proofs.WavetableEngine.render.Reads as reads
-use Rattle.wavetable_engine.proofs.WavetableEngine.render.Lts as lts
-use Rattle.wavetable_engine.proofs.WavetableEngine.set_up.Reads as set-up-reads
-use Rattle.wavetable_engine.proofs.frames.differentiate_all.Reads as differentiate-all-reads
-use Rattle.wavetable_engine.proofs.frames.walk.Reads as walk-reads
-use Rattle.wavetable_engine.proofs.frames.words_all.Reads as words-all-reads
-use Rattle.wavetable_engine.proofs.readings.fold_all.Reads as fold-all-reads
-use Rattle.wavetable_engine.proofs.readings.read_all.Reads as read-all-reads
 
--- src/lib.rt:165:13
 set-up-requires : tie.Need-set-up-requires
 set-up-requires c κs = search needs
 
--- src/lib.rt:167:13
 walk-requires : tie.Need-walk-requires
 walk-requires c κs = search needs
 
--- src/lib.rt:168:9
 read-all-requires : tie.Need-read-all-requires
 read-all-requires c κs =
     let s = c .before .before .before .before .before .before .before .before .before .before .before .before .before in
     ((s .pre .0, (s .pre .1 .0 .1, omega (arith, s .pre .1 .0 .1))), keys-fit _ _ _ _ _ _ _ _ _ (c .before .before .before .walk .ensures))
 
--- src/lib.rt:169:9
 fold-all-requires : tie.Need-fold-all-requires
 fold-all-requires c κs = search needs
 
--- src/lib.rt:170:13
 differentiate-all-requires : tie.Need-differentiate-all-requires
 differentiate-all-requires c κs =
     let s = c .before .before .before .before .before .before .before .before .before .before .before .before .before .before .before .before .before .before .before .before .before .before in
     (s .pre .1 .0 .1, omega (arith, s .pre .1 .0 .1))
 
--- src/lib.rt:171:9
 words-all-requires : tie.Need-words-all-requires
 words-all-requires c κs =
     let s = c .before .before .before .before .before .before .before .before .before .before .before .before .before .before .before .before .before .before .before .before .before .before .before .before .before .before in
     (s .pre .1 .0 .1, s .pre .1 .1)
 
--- src/lib.rt:140:5
 same-length : tie.Need-same-length
 same-length c = search needs
 
--- src/lib.rt:140:5
 same-length-2 : tie.Need-same-length-2
 same-length-2 c = search needs
 
--- src/lib.rt:140:5
 returns : tie.Need-returns
 returns c =
     let s = c .before .before .before .before .before .before .before .before .before .before .before .before .before .before .before .before .before .before .before .before .before .before .before .before .before .before .before .before .before .before .before .before in

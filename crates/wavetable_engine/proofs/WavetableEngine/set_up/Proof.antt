@@ -1,70 +1,50 @@
-use Rattle.wavetable_engine.specs.Wavetable.{setUp}
-use Rattle.words.specs.Binary32.{decimal}
+-- `wavetable_engine::WavetableEngine::set_up` meets its contract.
 use lib.Ieee.{ofBits}
 use borrow.Author.Needs.{needs}
+use Rattle.wavetable_engine.specs.Wavetable.{setUp}
+use Rattle.words.specs.Binary32.{decimal}
 use Rattle.wavetable_engine.proofs.WavetableEngine.set_up.Statement.{statement}
 use Rattle.wavetable_engine.proofs.WavetableEngine.set_up.Tie as tie
-use Rattle.wavetable_engine.proofs.WavetableEngine.set_up.Reads as reads
-use Rattle.wavetable_engine.proofs.WavetableEngine.set_up.Lts as lts
-use Rattle.utils.proofs.clamp.Reads as clamp-reads
-use Rattle.utils.proofs.engine.note_to_frequency.Reads as note-to-frequency-reads
-use Rattle.utils.proofs.one_pole.Reads as one-pole-reads
-use Rattle.utils.proofs.parameter_interpolator.ParameterInterpolator.new.Reads as new-reads
-use Rattle.wavetable_engine.proofs.quantise.Reads as quantise-reads
 
--- src/lib.rt:112:13
 note-to-frequency-requires : tie.Need-note-to-frequency-requires
 note-to-frequency-requires c κs = search needs
 
--- src/lib.rt:114:13
 one-pole-requires : tie.Need-one-pole-requires
 one-pole-requires c κs = search needs
 
--- src/lib.rt:115:13
 one-pole-requires-2 : tie.Need-one-pole-requires-2
 one-pole-requires-2 c κs = search needs
 
--- src/lib.rt:116:13
 one-pole-requires-3 : tie.Need-one-pole-requires-3
 one-pole-requires-3 c κs = search needs
 
--- src/lib.rt:118:13
 clamp-requires : tie.Need-clamp-requires
 clamp-requires c κs = search needs
 
--- src/lib.rt:119:13
 clamp-requires-2 : tie.Need-clamp-requires-2
 clamp-requires-2 c κs = search needs
 
--- src/lib.rt:131:64
 quantise-requires : tie.Need-quantise-requires
 quantise-requires c κs = search needs
 
--- src/lib.rt:131:20
 new-requires : tie.Need-new-requires
 new-requires c κs = search needs
 
--- src/lib.rt:132:64
 quantise-requires-2 : tie.Need-quantise-requires-2
 quantise-requires-2 c κs = search needs
 
--- src/lib.rt:132:20
 new-requires-2 : tie.Need-new-requires-2
 new-requires-2 c κs = search needs
 
--- src/lib.rt:133:64
 quantise-requires-3 : tie.Need-quantise-requires-3
 quantise-requires-3 c κs = search needs
 
--- src/lib.rt:133:20
 new-requires-3 : tie.Need-new-requires-3
 new-requires-3 c κs = search needs
 
--- src/lib.rt:134:21
 new-requires-4 : tie.Need-new-requires-4
 new-requires-4 c κs = search needs
 
--- src/lib.rt:103:5
 returns : tie.Need-returns
 unfolding setUp ofBits decimal
 returns c = rw (c .new4 .ensures, c .before .new3 .ensures, c .before .before .quantise3 .ensures, c .before .before .before .new2 .ensures, c .before .before .before .before .quantise2 .ensures, c .before .before .before .before .before .new .ensures, c .before .before .before .before .before .before .quantise .ensures, c .before .before .before .before .before .before .before .clamp2 .ensures, c .before .before .before .before .before .before .before .before .clamp .ensures, c .before .before .before .before .before .before .before .before .before .one-pole3 .ensures, c .before .before .before .before .before .before .before .before .before .before .before .one-pole2 .ensures, c .before .before .before .before .before .before .before .before .before .before .before .before .before .one-pole .ensures, c .before .before .before .before .before .before .before .before .before .before .before .before .before .before .before .note-to-frequency .ensures)

@@ -1,19 +1,13 @@
 -- The differentiator's loop, by the law that its stage goes on (Differentiating).
-use Rattle.wavetable_engine.specs.Stages.{Differentiating}
 use mathlib.Core.Path.{_≡_, refl, ap, _∙_}
 use borrow.Author.Needs.{needs}
-use Rattle.wavetable_engine.proofs.Differentiating.{Going, begins, goes-on}
 use lib.ListN.{length, length-set}
 use native.Mathlib.Omega.{arith}
 use Prim.Native.Nat.{_≤_, _-_}
+use Rattle.wavetable_engine.specs.Stages.{Differentiating}
+use Rattle.wavetable_engine.proofs.Differentiating.{Going, begins, goes-on}
 use Rattle.wavetable_engine.proofs.frames.differentiate_all.Statement.{statement}
 use Rattle.wavetable_engine.proofs.frames.differentiate_all.Tie as tie
-use Rattle.wavetable_engine.proofs.frames.differentiate_all.Reads as reads
-use Rattle.wavetable_engine.proofs.frames.differentiate_all.Lts as lts
-use Rattle.oscillator.proofs.wavetable_oscillator.Differentiator.process.Reads as process-reads
-use Rattle.utils.proofs.parameter_interpolator.ParameterInterpolator.next.Reads as next-reads
-use Rattle.wavetable_engine.proofs.frames.cutoff.Reads as cutoff-reads
-use Rattle.wavetable_engine.proofs.frames.gain.Reads as gain-reads
 
 abbrev Inv-loop : tie.InvT-loop
 Inv-loop size mixes samples₀ d₀ f₀ i₀ samples d f i =
@@ -22,62 +16,48 @@ Inv-loop size mixes samples₀ d₀ f₀ i₀ samples d f i =
 abbrev μ-loop : tie.MeasureT-loop
 μ-loop size mixes samples₀ d₀ f₀ i₀ samples d f i = size - i
 
--- src/frames.rt:162:5
 loop-holds : tie.Need-loop-holds Inv-loop μ-loop
 loop-holds c = (search needs, (refl, begins _ _ _))
 
--- src/frames.rt:163:9
 next-requires : tie.Need-next-requires Inv-loop μ-loop
 next-requires c κs = search needs
 
--- src/frames.rt:164:27
 cutoff-requires : tie.Need-cutoff-requires Inv-loop μ-loop
 cutoff-requires c κs = search needs
 
--- src/frames.rt:164:44
 mul-process : tie.Need-mul-process Inv-loop μ-loop
 mul-process c = search needs
 
--- src/frames.rt:164:44
 element-copy-out-process : tie.Need-element-copy-out-process Inv-loop μ-loop
 element-copy-out-process c = search needs
 
--- src/frames.rt:164:13
 process-requires : tie.Need-process-requires Inv-loop μ-loop
 process-requires c κs = search needs
 
--- src/frames.rt:165:33
 gain-requires : tie.Need-gain-requires Inv-loop μ-loop
 gain-requires c κs = search needs
 
--- src/frames.rt:165:9
 mul-samples : tie.Need-mul-samples Inv-loop μ-loop
 mul-samples c = search needs
 
--- src/frames.rt:165:9
 slice-write-samples : tie.Need-slice-write-samples Inv-loop μ-loop
 slice-write-samples c = search needs
 
--- src/frames.rt:167:9
 add-i : tie.Need-add-i Inv-loop μ-loop
 add-i c = search needs
 
--- src/frames.rt:162:5
 loop-less : tie.Need-loop-less Inv-loop μ-loop
 loop-less c = search needs
 
--- src/frames.rt:162:5
 loop-again : tie.Need-loop-again Inv-loop μ-loop
 loop-again c =
     let l = c .before .before .before .before .before .before .before .before .loop in
     rw (c .before .before .gain .ensures, c .before .before .before .process .ensures, c .before .before .before .before .before .cutoff .ensures, c .before .before .before .before .before .before .next .ensures)
     (omega arith, (length-set (l .samples) (l .i) _ ∙ l .inv .1 .0, goes-on _ _ (l .samples) (record { «diff_out» = l .d; f0 = l .f }) (l .i) (omega arith) (l .inv .1 .1)))
 
--- src/frames.rt:148:1
 same-length : tie.Need-same-length Inv-loop μ-loop
 same-length c = search needs
 
--- src/frames.rt:148:1
 returns : tie.Need-returns Inv-loop μ-loop
 returns c =
     let l = c .before .loop in

@@ -1,13 +1,11 @@
+-- `wavetable_engine::frames::gain` meets its contract.
 use mathlib.Core.Path.{refl}
+use lib.Ieee.{ofBits}
 use Rattle.wavetable_engine.specs.Wavetable.{gainOf}
 use Rattle.words.specs.Binary32.{decimal}
-use lib.Ieee.{ofBits}
 use Rattle.wavetable_engine.proofs.frames.gain.Statement.{statement}
 use Rattle.wavetable_engine.proofs.frames.gain.Tie as tie
-use Rattle.wavetable_engine.proofs.frames.gain.Reads as reads
-use Rattle.wavetable_engine.proofs.frames.gain.Lts as lts
 
--- src/frames.rt:135:1
 returns : tie.Need-returns
 unfolding gainOf ofBits decimal
 returns c = refl

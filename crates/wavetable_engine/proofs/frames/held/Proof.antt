@@ -1,8 +1,8 @@
 -- A frame with any hold counts 1: the four tests by the ways that control came.
-use Rattle.wavetable_engine.specs.Wavetable.{heldOf}
 use mathlib.Core.Logic.{⊎-elim}
 use mathlib.Core.Bool.{Bool, true, false, cond, _||_}
 use mathlib.Core.Path.{_≡_, sym, ap, _∙_}
+use Rattle.wavetable_engine.specs.Wavetable.{heldOf}
 use Rattle.wavetable_engine.proofs.frames.held.Statement.{statement}
 use Rattle.wavetable_engine.proofs.frames.held.Tie as tie
 use Rattle.wavetable_engine.proofs.frames.held.Reads as reads
@@ -23,12 +23,10 @@ any-of c =
     let four = ⊎-elim (λ w. by-first _ (p .phase .held) _ (w .0 .taken) (w .1)) (λ w. by-second _ (p .phase .held) _ (w .0 .left) (w .1)) (c .if3 .came) in
     four ∙ ap (λ (b : Bool). b || p .phase .held) (three ∙ ap (λ (b : Bool). b || p .z .held) two)
 
--- src/frames.rt:80:1
 returns : tie.Need-returns
 unfolding heldOf
 returns c = ap (λ (b : Bool). cond b 1 0) (sym (c .if4 .taken) ∙ any-of (c .before))
 
--- src/frames.rt:80:1
 returns-2 : tie.Need-returns-2
 unfolding heldOf
 returns-2 c = ap (λ (b : Bool). cond b 1 0) (sym (c .if4 .left) ∙ any-of (c .before))

@@ -1,46 +1,33 @@
-use Rattle.wavetable_engine.specs.Wavetable.{moved}
+-- `wavetable_engine::frames::next` meets its contract.
 use borrow.Author.Needs.{needs}
+use Rattle.wavetable_engine.specs.Wavetable.{moved}
 use Rattle.wavetable_engine.proofs.frames.next.Statement.{statement}
 use Rattle.wavetable_engine.proofs.frames.next.Tie as tie
-use Rattle.wavetable_engine.proofs.frames.next.Reads as reads
-use Rattle.wavetable_engine.proofs.frames.next.Lts as lts
-use Rattle.utils.proofs.one_pole.Reads as one-pole-reads
-use Rattle.utils.proofs.parameter_interpolator.ParameterInterpolator.next.Reads as next-reads
-use Rattle.wavetable_engine.proofs.frames.advance.Reads as advance-reads
 
--- src/frames.rt:52:9
 next-requires : tie.Need-next-requires
 next-requires c κs = search needs
 
--- src/frames.rt:53:9
 next-requires-2 : tie.Need-next-requires-2
 next-requires-2 c κs = search needs
 
--- src/frames.rt:54:9
 next-requires-3 : tie.Need-next-requires-3
 next-requires-3 c κs = search needs
 
--- src/frames.rt:55:9
 next-requires-4 : tie.Need-next-requires-4
 next-requires-4 c κs = search needs
 
--- src/frames.rt:57:16
 advance-requires : tie.Need-advance-requires
 advance-requires c κs = search needs
 
--- src/frames.rt:58:15
 one-pole-requires : tie.Need-one-pole-requires
 one-pole-requires c κs = search needs
 
--- src/frames.rt:59:15
 one-pole-requires-2 : tie.Need-one-pole-requires-2
 one-pole-requires-2 c κs = search needs
 
--- src/frames.rt:60:15
 one-pole-requires-3 : tie.Need-one-pole-requires-3
 one-pole-requires-3 c κs = search needs
 
--- src/frames.rt:49:1
 returns : tie.Need-returns
 unfolding moved
 returns c = rw (c .one-pole3 .ensures, c .before .one-pole2 .ensures, c .before .before .one-pole .ensures, c .before .before .before .advance .ensures, c .before .before .before .before .next4 .ensures, c .before .before .before .before .before .next3 .ensures, c .before .before .before .before .before .before .next2 .ensures, c .before .before .before .before .before .before .before .next .ensures)

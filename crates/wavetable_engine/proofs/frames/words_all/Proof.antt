@@ -1,18 +1,15 @@
 -- The loop that writes the words, by the law of a list that is filled from the front.
 use mathlib.Core.Path.{_≡_, refl, _∙_}
 use borrow.Author.Needs.{needs}
-use Rattle.wavetable_engine.specs.Wavetable.{lofi}
-use Rattle.utils.proofs.Frames.{Filled, filled-none, filled-more}
 use lib.Ieee.{nan, binary32, toBits}
 use lib.ListN.{length, getD, length-set}
 use native.Mathlib.Omega.{arith}
 use Prim.Native.Nat.{_≤_, _-_}
+use Rattle.wavetable_engine.specs.Wavetable.{lofi}
+use Rattle.utils.specs.Frames.{Filled}
+use Rattle.utils.proofs.Frames.{filled-none, filled-more}
 use Rattle.wavetable_engine.proofs.frames.words_all.Statement.{statement}
 use Rattle.wavetable_engine.proofs.frames.words_all.Tie as tie
-use Rattle.wavetable_engine.proofs.frames.words_all.Reads as reads
-use Rattle.wavetable_engine.proofs.frames.words_all.Lts as lts
-use Rattle.wavetable_engine.proofs.frames.lofi.Reads as lofi-reads
-use Rattle.words.proofs.to_word.Reads as to-word-reads
 
 abbrev Inv-loop : tie.InvT-loop
 Inv-loop samples out₀ aux₀ i₀ out aux i =
@@ -24,70 +21,54 @@ Inv-loop samples out₀ aux₀ i₀ out aux i =
 abbrev μ-loop : tie.MeasureT-loop
 μ-loop samples out₀ aux₀ i₀ out aux i = length out₀ - i
 
--- src/frames.rt:185:5
 loop-holds : tie.Need-loop-holds Inv-loop μ-loop
 loop-holds c = (search needs, (refl, (refl, (filled-none _ _ _, filled-none _ _ _))))
 
--- src/frames.rt:186:17
 mul-x : tie.Need-mul-x Inv-loop μ-loop
 mul-x c = search needs
 
--- src/frames.rt:186:17
 element-copy-out-x : tie.Need-element-copy-out-x Inv-loop μ-loop
 element-copy-out-x c = search needs
 
--- src/frames.rt:187:18
 to-word-requires : tie.Need-to-word-requires Inv-loop μ-loop
 to-word-requires c κs = search needs
 
--- src/frames.rt:187:9
 mul-out : tie.Need-mul-out Inv-loop μ-loop
 mul-out c = search needs
 
--- src/frames.rt:187:9
 slice-write-out : tie.Need-slice-write-out Inv-loop μ-loop
 slice-write-out c = search needs
 
--- src/frames.rt:188:33
 lofi-requires : tie.Need-lofi-requires Inv-loop μ-loop
 lofi-requires c κs = search needs
 
--- src/frames.rt:188:18
 to-word-requires-2 : tie.Need-to-word-requires-2 Inv-loop μ-loop
 to-word-requires-2 c κs = search needs
 
--- src/frames.rt:188:9
 mul-aux : tie.Need-mul-aux Inv-loop μ-loop
 mul-aux c = search needs
 
--- src/frames.rt:188:9
 slice-write-aux : tie.Need-slice-write-aux Inv-loop μ-loop
 slice-write-aux c = search needs
 
--- src/frames.rt:189:9
 add-i : tie.Need-add-i Inv-loop μ-loop
 add-i c = search needs
 
--- src/frames.rt:185:5
 loop-less : tie.Need-loop-less Inv-loop μ-loop
 loop-less c = search needs
 
--- src/frames.rt:185:5
 loop-again : tie.Need-loop-again Inv-loop μ-loop
 loop-again c =
     let l = c .before .before .before .before .before .loop in
     rw (c .to-word2 .ensures, c .before .lofi .ensures, c .before .before .to-word .ensures)
     (omega arith, (length-set (l .out) (l .i) _ ∙ l .inv .1 .0, (length-set (l .aux) (l .i) _ ∙ l .inv .1 .1 .0, (filled-more _ _ (l .out) (l .i) _ (omega arith) refl (l .inv .1 .1 .1 .0), filled-more _ _ (l .aux) (l .i) _ (omega arith) refl (l .inv .1 .1 .1 .1)))))
 
--- src/frames.rt:179:1
 same-length : tie.Need-same-length Inv-loop μ-loop
 same-length c = search needs
 
--- src/frames.rt:179:1
 same-length-2 : tie.Need-same-length-2 Inv-loop μ-loop
 same-length-2 c = search needs
 
--- src/frames.rt:179:1
 returns : tie.Need-returns Inv-loop μ-loop
 returns c =
     let l = c .before .loop in

@@ -1,14 +1,11 @@
+-- `wavetable_engine::readings::along_y` meets its contract.
 use borrow.Author.Tests.{eq-eqb, ne-eqb}
 use Rattle.wavetable_engine.proofs.readings.along_y.Statement.{statement}
 use Rattle.wavetable_engine.proofs.readings.along_y.Tie as tie
-use Rattle.wavetable_engine.proofs.readings.along_y.Reads as reads
-use Rattle.wavetable_engine.proofs.readings.along_y.Lts as lts
 
--- src/readings.rt:49:1
 returns : tie.Need-returns
 returns c = simp (eq-eqb _ _ (c .if1 .taken))
 
--- src/readings.rt:49:1
 returns-2 : tie.Need-returns-2
 returns-2 c = simp (ne-eqb _ _ (c .if1 .left))
 

@@ -1,22 +1,18 @@
-use Rattle.wavetable_engine.specs.Wavetable.{foldLevel}
+-- `wavetable_engine::readings::fold_level` meets its contract.
 use native.Mathlib.Omega.{arith}
 use borrow.Author.Tests.{le-leb, lt-leb}
 use borrow.Author.Needs.{needs}
+use Rattle.wavetable_engine.specs.Wavetable.{foldLevel}
 use Rattle.wavetable_engine.proofs.readings.fold_level.Statement.{statement}
 use Rattle.wavetable_engine.proofs.readings.fold_level.Tie as tie
-use Rattle.wavetable_engine.proofs.readings.fold_level.Reads as reads
-use Rattle.wavetable_engine.proofs.readings.fold_level.Lts as lts
 
--- src/readings.rt:38:17
 sub-result : tie.Need-sub-result
 sub-result c = search needs
 
--- src/readings.rt:33:1
 returns : tie.Need-returns
 unfolding foldLevel
 returns c = (simp (le-leb _ _ (c .if1 .taken)), omega arith)
 
--- src/readings.rt:33:1
 returns-2 : tie.Need-returns-2
 unfolding foldLevel
 returns-2 c = (simp (lt-leb _ _ (c .if1 .left)), omega arith)

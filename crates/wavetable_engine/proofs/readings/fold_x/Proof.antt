@@ -1,123 +1,92 @@
+-- `wavetable_engine::readings::fold_x` meets its contract.
 use borrow.Author.Needs.{needs}
 use Rattle.wavetable_engine.proofs.readings.fold_x.Statement.{statement}
 use Rattle.wavetable_engine.proofs.readings.fold_x.Tie as tie
-use Rattle.wavetable_engine.proofs.readings.fold_x.Reads as reads
-use Rattle.wavetable_engine.proofs.readings.fold_x.Lts as lts
-use Rattle.wavetable_engine.proofs.readings.mix.Reads as mix-reads
 
--- src/readings.rt:201:17
 index-1-mix : tie.Need-index-1-mix
 index-1-mix c = search needs
 
--- src/readings.rt:201:17
 index-2-mix : tie.Need-index-2-mix
 index-2-mix c = search needs
 
--- src/readings.rt:201:17
 index-3-mix : tie.Need-index-3-mix
 index-3-mix c = search needs
 
--- src/readings.rt:201:29
 index-1-mix-2 : tie.Need-index-1-mix-2
 index-1-mix-2 c = search needs
 
--- src/readings.rt:201:29
 index-2-mix-2 : tie.Need-index-2-mix-2
 index-2-mix-2 c = search needs
 
--- src/readings.rt:201:29
 index-3-mix-2 : tie.Need-index-3-mix-2
 index-3-mix-2 c = search needs
 
--- src/readings.rt:201:13
 mix-requires : tie.Need-mix-requires
 mix-requires c κs = search needs
 
--- src/readings.rt:202:17
 index-1-mix-3 : tie.Need-index-1-mix-3
 index-1-mix-3 c = search needs
 
--- src/readings.rt:202:17
 index-2-mix-3 : tie.Need-index-2-mix-3
 index-2-mix-3 c = search needs
 
--- src/readings.rt:202:17
 index-3-mix-3 : tie.Need-index-3-mix-3
 index-3-mix-3 c = search needs
 
--- src/readings.rt:202:29
 index-1-mix-4 : tie.Need-index-1-mix-4
 index-1-mix-4 c = search needs
 
--- src/readings.rt:202:29
 index-2-mix-4 : tie.Need-index-2-mix-4
 index-2-mix-4 c = search needs
 
--- src/readings.rt:202:29
 index-3-mix-4 : tie.Need-index-3-mix-4
 index-3-mix-4 c = search needs
 
--- src/readings.rt:202:13
 mix-requires-2 : tie.Need-mix-requires-2
 mix-requires-2 c κs = search needs
 
--- src/readings.rt:205:17
 index-1-mix-5 : tie.Need-index-1-mix-5
 index-1-mix-5 c = search needs
 
--- src/readings.rt:205:17
 index-2-mix-5 : tie.Need-index-2-mix-5
 index-2-mix-5 c = search needs
 
--- src/readings.rt:205:17
 index-3-mix-5 : tie.Need-index-3-mix-5
 index-3-mix-5 c = search needs
 
--- src/readings.rt:205:29
 index-1-mix-6 : tie.Need-index-1-mix-6
 index-1-mix-6 c = search needs
 
--- src/readings.rt:205:29
 index-2-mix-6 : tie.Need-index-2-mix-6
 index-2-mix-6 c = search needs
 
--- src/readings.rt:205:29
 index-3-mix-6 : tie.Need-index-3-mix-6
 index-3-mix-6 c = search needs
 
--- src/readings.rt:205:13
 mix-requires-3 : tie.Need-mix-requires-3
 mix-requires-3 c κs = search needs
 
--- src/readings.rt:206:17
 index-1-mix-7 : tie.Need-index-1-mix-7
 index-1-mix-7 c = search needs
 
--- src/readings.rt:206:17
 index-2-mix-7 : tie.Need-index-2-mix-7
 index-2-mix-7 c = search needs
 
--- src/readings.rt:206:17
 index-3-mix-7 : tie.Need-index-3-mix-7
 index-3-mix-7 c = search needs
 
--- src/readings.rt:206:29
 index-1-mix-8 : tie.Need-index-1-mix-8
 index-1-mix-8 c = search needs
 
--- src/readings.rt:206:29
 index-2-mix-8 : tie.Need-index-2-mix-8
 index-2-mix-8 c = search needs
 
--- src/readings.rt:206:29
 index-3-mix-8 : tie.Need-index-3-mix-8
 index-3-mix-8 c = search needs
 
--- src/readings.rt:206:13
 mix-requires-4 : tie.Need-mix-requires-4
 mix-requires-4 c κs = search needs
 
--- src/readings.rt:196:1
 returns : tie.Need-returns
 returns c = rw (c .mix4 .ensures, c .before .before .before .mix3 .ensures, c .before .before .before .before .before .before .mix2 .ensures, c .before .before .before .before .before .before .before .before .before .mix .ensures)
 

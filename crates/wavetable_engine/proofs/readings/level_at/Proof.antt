@@ -1,64 +1,46 @@
 -- The four waves of a level, each a step from the one before it (Waves).
-use Rattle.wavetable_engine.specs.Stages.{placesOfLevel}
 use native.Mathlib.Omega.{arith}
-use Rattle.wavetable_engine.proofs.Waves.{wave-below, wave-along-x, wave-along-y, spread-below}
 use borrow.Author.Needs.{needs}
+use Rattle.wavetable_engine.specs.Stages.{placesOfLevel}
+use Rattle.wavetable_engine.proofs.Waves.{wave-below, wave-along-x, wave-along-y, spread-below}
 use Rattle.wavetable_engine.proofs.readings.level_at.Statement.{statement}
 use Rattle.wavetable_engine.proofs.readings.level_at.Tie as tie
-use Rattle.wavetable_engine.proofs.readings.level_at.Reads as reads
-use Rattle.wavetable_engine.proofs.readings.level_at.Lts as lts
-use Rattle.wavetable_engine.proofs.readings.along_x.Reads as along-x-reads
-use Rattle.wavetable_engine.proofs.readings.along_y.Reads as along-y-reads
-use Rattle.wavetable_engine.proofs.readings.further.Reads as further-reads
-use Rattle.wavetable_engine.proofs.readings.wave.Reads as wave-reads
 
--- src/readings.rt:79:9
 wave-requires : tie.Need-wave-requires
 wave-requires c κs = search needs
 
--- src/readings.rt:80:30
 along-y-requires : tie.Need-along-y-requires
 along-y-requires c κs = search needs
 
--- src/readings.rt:80:9
 further-requires : tie.Need-further-requires
 further-requires c κs = (rw (c .before .wave .ensures) (wave-below _ _ _), rw (c .along-y .ensures) (omega arith))
 
--- src/readings.rt:81:30
 along-x-requires : tie.Need-along-x-requires
 along-x-requires c κs = search needs
 
--- src/readings.rt:81:9
 further-requires-2 : tie.Need-further-requires-2
 further-requires-2 c κs = (rw (c .before .before .before .wave .ensures) (wave-below _ _ _), rw (c .along-x .ensures) (spread-below (c .before .before .before .before .args .level)))
 
--- src/readings.rt:82:30
 along-x-requires-2 : tie.Need-along-x-requires-2
 along-x-requires-2 c κs = search needs
 
--- src/readings.rt:82:9
 further-requires-3 : tie.Need-further-requires-3
 further-requires-3 c κs = (omega (arith, c .before .before .before .further .ensures), rw (c .along-x2 .ensures) (spread-below (c .before .before .before .before .before .before .args .level)))
 
--- src/readings.rt:84:15
 mul-t8 : tie.Need-mul-t8
 mul-t8 c =
     let a = c .before .before .before .before .before .before .before .args in
     omega (arith, c .before .before .before .before .before .before .wave .ensures, wave-below (a .x) (a .y) (a .level))
 
--- src/readings.rt:85:15
 mul-t9 : tie.Need-mul-t9
 mul-t9 c = search needs
 
--- src/readings.rt:86:15
 mul-t10 : tie.Need-mul-t10
 mul-t10 c = search needs
 
--- src/readings.rt:87:15
 mul-t11 : tie.Need-mul-t11
 mul-t11 c = search needs
 
--- src/readings.rt:75:1
 returns : tie.Need-returns
 unfolding placesOfLevel
 returns c = rw (c .further3 .ensures, c .before .along-x2 .ensures, c .before .before .further2 .ensures, c .before .before .before .along-x .ensures, c .before .before .before .before .further .ensures, c .before .before .before .before .before .along-y .ensures, c .before .before .before .before .before .before .wave .ensures) (simp (wave-along-y, wave-along-x))

@@ -1,104 +1,79 @@
-use Rattle.wavetable_engine.specs.Stages.{loaded}
+-- `wavetable_engine::readings::load` meets its contract.
 use mathlib.Core.Path.{refl}
 use borrow.Author.Needs.{needs}
+use Rattle.wavetable_engine.specs.Stages.{loaded}
 use Rattle.wavetable_engine.proofs.readings.load.Statement.{statement}
 use Rattle.wavetable_engine.proofs.readings.load.Tie as tie
-use Rattle.wavetable_engine.proofs.readings.load.Reads as reads
-use Rattle.wavetable_engine.proofs.readings.load.Lts as lts
 
--- src/readings.rt:180:14
 mul-t3 : tie.Need-mul-t3
 mul-t3 c = search needs
 
--- src/readings.rt:180:14
 element-copy-out-t6 : tie.Need-element-copy-out-t6
 element-copy-out-t6 c = search needs
 
--- src/readings.rt:180:35
 add-t7 : tie.Need-add-t7
 add-t7 c = search needs
 
--- src/readings.rt:180:27
 mul-t8 : tie.Need-mul-t8
 mul-t8 c = search needs
 
--- src/readings.rt:180:27
 element-copy-out-t11 : tie.Need-element-copy-out-t11
 element-copy-out-t11 c = search needs
 
--- src/readings.rt:181:22
 add-t13 : tie.Need-add-t13
 add-t13 c = search needs
 
--- src/readings.rt:181:14
 mul-t14 : tie.Need-mul-t14
 mul-t14 c = search needs
 
--- src/readings.rt:181:14
 element-copy-out-t17 : tie.Need-element-copy-out-t17
 element-copy-out-t17 c = search needs
 
--- src/readings.rt:181:39
 add-t18 : tie.Need-add-t18
 add-t18 c = search needs
 
--- src/readings.rt:181:31
 mul-t19 : tie.Need-mul-t19
 mul-t19 c = search needs
 
--- src/readings.rt:181:31
 element-copy-out-t22 : tie.Need-element-copy-out-t22
 element-copy-out-t22 c = search needs
 
--- src/readings.rt:184:22
 add-t25 : tie.Need-add-t25
 add-t25 c = search needs
 
--- src/readings.rt:184:14
 mul-t26 : tie.Need-mul-t26
 mul-t26 c = search needs
 
--- src/readings.rt:184:14
 element-copy-out-t29 : tie.Need-element-copy-out-t29
 element-copy-out-t29 c = search needs
 
--- src/readings.rt:184:39
 add-t30 : tie.Need-add-t30
 add-t30 c = search needs
 
--- src/readings.rt:184:31
 mul-t31 : tie.Need-mul-t31
 mul-t31 c = search needs
 
--- src/readings.rt:184:31
 element-copy-out-t34 : tie.Need-element-copy-out-t34
 element-copy-out-t34 c = search needs
 
--- src/readings.rt:185:22
 add-t36 : tie.Need-add-t36
 add-t36 c = search needs
 
--- src/readings.rt:185:14
 mul-t37 : tie.Need-mul-t37
 mul-t37 c = search needs
 
--- src/readings.rt:185:14
 element-copy-out-t40 : tie.Need-element-copy-out-t40
 element-copy-out-t40 c = search needs
 
--- src/readings.rt:185:39
 add-t41 : tie.Need-add-t41
 add-t41 c = search needs
 
--- src/readings.rt:185:31
 mul-t42 : tie.Need-mul-t42
 mul-t42 c = search needs
 
--- src/readings.rt:185:31
 element-copy-out-t45 : tie.Need-element-copy-out-t45
 element-copy-out-t45 c = search needs
 
--- src/readings.rt:174:1
 returns : tie.Need-returns
 unfolding loaded
 returns c = refl

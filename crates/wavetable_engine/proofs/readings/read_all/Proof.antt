@@ -1,20 +1,14 @@
 -- The readings' loop: the places at hand are always those of the key they carry, and one more frame's corners are stored (Stored).
 use mathlib.Core.Path.{_≡_, refl, _∙_}
 use lib.ListN.{length}
-use Rattle.wavetable_engine.proofs.Corners.{own-key, by-own-key}
 use borrow.Author.Needs.{needs}
-use Rattle.wavetable_engine.proofs.Stored.{none-read, one-more-read}
-use Rattle.wavetable_engine.specs.Stages.{placesOf, CornersRead}
 use native.Mathlib.Omega.{arith}
 use Prim.Native.Nat.{_+_, _*_, _-_, _≤_, _<_}
+use Rattle.wavetable_engine.specs.Stages.{placesOf, CornersRead}
+use Rattle.wavetable_engine.proofs.Corners.{own-key, by-own-key}
+use Rattle.wavetable_engine.proofs.Stored.{none-read, one-more-read}
 use Rattle.wavetable_engine.proofs.readings.read_all.Statement.{statement}
 use Rattle.wavetable_engine.proofs.readings.read_all.Tie as tie
-use Rattle.wavetable_engine.proofs.readings.read_all.Reads as reads
-use Rattle.wavetable_engine.proofs.readings.read_all.Lts as lts
-use Rattle.wavetable_engine.proofs.readings.places_at.Reads as places-at-reads
-use Rattle.wavetable_engine.proofs.readings.places_for.Reads as places-for-reads
-use Rattle.wavetable_engine.proofs.readings.read_corners.Reads as read-corners-reads
-use Rattle.wavetable_engine.proofs.readings.store.Reads as store-reads
 
 abbrev Inv-loop : tie.InvT-loop
 Inv-loop bank size keys phases corners₀ s₀ i₀ corners s i =
@@ -23,66 +17,52 @@ Inv-loop bank size keys phases corners₀ s₀ i₀ corners s i =
 abbrev μ-loop : tie.MeasureT-loop
 μ-loop bank size keys phases corners₀ s₀ i₀ corners s i = size - i
 
--- src/readings.rt:163:9
 places-at-requires : tie.Need-places-at-requires Inv-loop μ-loop
 places-at-requires c κs = search needs
 
--- src/readings.rt:165:5
 loop-holds : tie.Need-loop-holds Inv-loop μ-loop
 loop-holds c = (search needs, (refl, (by-own-key _ _ (c .places-at .ensures), none-read _ _ _ _)))
 
--- src/readings.rt:166:19
 mul-key : tie.Need-mul-key Inv-loop μ-loop
 mul-key c = search needs
 
--- src/readings.rt:166:19
 element-copy-out-key : tie.Need-element-copy-out-key Inv-loop μ-loop
 element-copy-out-key c = search needs
 
--- src/readings.rt:167:9
 places-for-requires : tie.Need-places-for-requires Inv-loop μ-loop
 places-for-requires c κs =
     let k = c .before .before .before .before .before .pre .1 .each-fits (c .before .before .loop .i) (c .before .loop-test .taken) in
     (c .before .before .loop .inv .1 .1 .0, k .level)
 
--- src/readings.rt:168:39
 cast-read-corners : tie.Need-cast-read-corners Inv-loop μ-loop
 cast-read-corners c =
     let k = c .before .before .before .before .before .before .pre .1 .each-fits (c .before .before .before .loop .i) (c .before .before .loop-test .taken) in
     omega (arith, k .phase)
 
--- src/readings.rt:168:61
 mul-read-corners : tie.Need-mul-read-corners Inv-loop μ-loop
 mul-read-corners c = search needs
 
--- src/readings.rt:168:61
 element-copy-out-read-corners : tie.Need-element-copy-out-read-corners Inv-loop μ-loop
 element-copy-out-read-corners c = search needs
 
--- src/readings.rt:168:13
 read-corners-requires : tie.Need-read-corners-requires Inv-loop μ-loop
 read-corners-requires c κs =
     let s = c .before .before .before .before .before .before .before in
     let k = s .pre .1 .each-fits (c .before .before .before .before .loop .i) (c .before .before .before .loop-test .taken) in
     ((s .pre .0 .0, omega (arith, k .phase)), by-own-key _ _ (c .before .places-for .ensures))
 
--- src/readings.rt:169:18
 mul-store : tie.Need-mul-store Inv-loop μ-loop
 mul-store c = search needs
 
--- src/readings.rt:169:9
 store-requires : tie.Need-store-requires Inv-loop μ-loop
 store-requires c κs = search needs
 
--- src/readings.rt:170:9
 add-i : tie.Need-add-i Inv-loop μ-loop
 add-i c = search needs
 
--- src/readings.rt:165:5
 loop-less : tie.Need-loop-less Inv-loop μ-loop
 loop-less c = search needs
 
--- src/readings.rt:165:5
 loop-again : tie.Need-loop-again Inv-loop μ-loop
 loop-again c =
     let l = c .before .before .before .before .before .before .before .before .before .loop in
@@ -102,7 +82,6 @@ loop-again c =
 same-length : tie.Need-same-length Inv-loop μ-loop
 same-length c = search needs
 
--- src/readings.rt:158:1
 returns : tie.Need-returns Inv-loop μ-loop
 returns c =
     let l = c .before .loop in

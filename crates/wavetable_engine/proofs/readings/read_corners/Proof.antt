@@ -1,19 +1,14 @@
+-- `wavetable_engine::readings::read_corners` meets its contract.
 use Rattle.wavetable_engine.proofs.Corners.{corners-read, z0-fits, z1-fits}
 use Rattle.wavetable_engine.proofs.readings.read_corners.Statement.{statement}
 use Rattle.wavetable_engine.proofs.readings.read_corners.Tie as tie
-use Rattle.wavetable_engine.proofs.readings.read_corners.Reads as reads
-use Rattle.wavetable_engine.proofs.readings.read_corners.Lts as lts
-use Rattle.wavetable_engine.proofs.readings.read_level.Reads as read-level-reads
 
--- src/readings.rt:139:9
 read-level-requires : tie.Need-read-level-requires
 read-level-requires c κs = (c .pre .0, z0-fits _ (c .pre .1))
 
--- src/readings.rt:140:9
 read-level-requires-2 : tie.Need-read-level-requires-2
 read-level-requires-2 c κs = (c .before .pre .0, z1-fits _ (c .before .pre .1))
 
--- src/readings.rt:134:1
 returns : tie.Need-returns
 returns c = rw (c .read-level2 .ensures, c .before .read-level .ensures) (corners-read _ _ _ _ (c .before .before .pre .1))
 

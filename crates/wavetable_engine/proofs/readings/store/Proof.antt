@@ -1,206 +1,156 @@
+-- `wavetable_engine::readings::store` meets its contract.
 use mathlib.Core.Path.{refl}
 use native.Mathlib.Omega.{arith}
 use lib.ListN.{length-set}
-use Rattle.wavetable_engine.specs.Stages.{stored}
 use borrow.Author.Needs.{needs}
+use Rattle.wavetable_engine.specs.Stages.{stored}
 use Rattle.wavetable_engine.proofs.readings.store.Statement.{statement}
 use Rattle.wavetable_engine.proofs.readings.store.Tie as tie
-use Rattle.wavetable_engine.proofs.readings.store.Reads as reads
-use Rattle.wavetable_engine.proofs.readings.store.Lts as lts
 
--- src/readings.rt:148:19
 index-1-corners : tie.Need-index-1-corners
 index-1-corners c = search needs
 
--- src/readings.rt:148:19
 index-2-corners : tie.Need-index-2-corners
 index-2-corners c = search needs
 
--- src/readings.rt:148:19
 index-3-corners : tie.Need-index-3-corners
 index-3-corners c = search needs
 
--- src/readings.rt:148:5
 mul-corners : tie.Need-mul-corners
 mul-corners c = search needs
 
--- src/readings.rt:148:5
 slice-write-corners : tie.Need-slice-write-corners
 slice-write-corners c = search needs
 
--- src/readings.rt:149:23
 index-1-corners-2 : tie.Need-index-1-corners-2
 index-1-corners-2 c = search needs
 
--- src/readings.rt:149:23
 index-2-corners-2 : tie.Need-index-2-corners-2
 index-2-corners-2 c = search needs
 
--- src/readings.rt:149:23
 index-3-corners-2 : tie.Need-index-3-corners-2
 index-3-corners-2 c = search needs
 
--- src/readings.rt:149:13
 add-corners : tie.Need-add-corners
 add-corners c = search needs
 
--- src/readings.rt:149:5
 mul-corners-2 : tie.Need-mul-corners-2
 mul-corners-2 c = search needs
 
--- src/readings.rt:149:5
 slice-write-corners-2 : tie.Need-slice-write-corners-2
 slice-write-corners-2 c = simp length-set (omega arith)
 
--- src/readings.rt:150:23
 index-1-corners-3 : tie.Need-index-1-corners-3
 index-1-corners-3 c = search needs
 
--- src/readings.rt:150:23
 index-2-corners-3 : tie.Need-index-2-corners-3
 index-2-corners-3 c = search needs
 
--- src/readings.rt:150:23
 index-3-corners-3 : tie.Need-index-3-corners-3
 index-3-corners-3 c = search needs
 
--- src/readings.rt:150:13
 add-corners-2 : tie.Need-add-corners-2
 add-corners-2 c = search needs
 
--- src/readings.rt:150:5
 mul-corners-3 : tie.Need-mul-corners-3
 mul-corners-3 c = search needs
 
--- src/readings.rt:150:5
 slice-write-corners-3 : tie.Need-slice-write-corners-3
 slice-write-corners-3 c = simp length-set (omega arith)
 
--- src/readings.rt:151:23
 index-1-corners-4 : tie.Need-index-1-corners-4
 index-1-corners-4 c = search needs
 
--- src/readings.rt:151:23
 index-2-corners-4 : tie.Need-index-2-corners-4
 index-2-corners-4 c = search needs
 
--- src/readings.rt:151:23
 index-3-corners-4 : tie.Need-index-3-corners-4
 index-3-corners-4 c = search needs
 
--- src/readings.rt:151:13
 add-corners-3 : tie.Need-add-corners-3
 add-corners-3 c = search needs
 
--- src/readings.rt:151:5
 mul-corners-4 : tie.Need-mul-corners-4
 mul-corners-4 c = search needs
 
--- src/readings.rt:151:5
 slice-write-corners-4 : tie.Need-slice-write-corners-4
 slice-write-corners-4 c = simp length-set (omega arith)
 
--- src/readings.rt:152:23
 index-1-corners-5 : tie.Need-index-1-corners-5
 index-1-corners-5 c = search needs
 
--- src/readings.rt:152:23
 index-2-corners-5 : tie.Need-index-2-corners-5
 index-2-corners-5 c = search needs
 
--- src/readings.rt:152:23
 index-3-corners-5 : tie.Need-index-3-corners-5
 index-3-corners-5 c = search needs
 
--- src/readings.rt:152:13
 add-corners-4 : tie.Need-add-corners-4
 add-corners-4 c = search needs
 
--- src/readings.rt:152:5
 mul-corners-5 : tie.Need-mul-corners-5
 mul-corners-5 c = search needs
 
--- src/readings.rt:152:5
 slice-write-corners-5 : tie.Need-slice-write-corners-5
 slice-write-corners-5 c = simp length-set (omega arith)
 
--- src/readings.rt:153:23
 index-1-corners-6 : tie.Need-index-1-corners-6
 index-1-corners-6 c = search needs
 
--- src/readings.rt:153:23
 index-2-corners-6 : tie.Need-index-2-corners-6
 index-2-corners-6 c = search needs
 
--- src/readings.rt:153:23
 index-3-corners-6 : tie.Need-index-3-corners-6
 index-3-corners-6 c = search needs
 
--- src/readings.rt:153:13
 add-corners-5 : tie.Need-add-corners-5
 add-corners-5 c = search needs
 
--- src/readings.rt:153:5
 mul-corners-6 : tie.Need-mul-corners-6
 mul-corners-6 c = search needs
 
--- src/readings.rt:153:5
 slice-write-corners-6 : tie.Need-slice-write-corners-6
 slice-write-corners-6 c = simp length-set (omega arith)
 
--- src/readings.rt:154:23
 index-1-corners-7 : tie.Need-index-1-corners-7
 index-1-corners-7 c = search needs
 
--- src/readings.rt:154:23
 index-2-corners-7 : tie.Need-index-2-corners-7
 index-2-corners-7 c = search needs
 
--- src/readings.rt:154:23
 index-3-corners-7 : tie.Need-index-3-corners-7
 index-3-corners-7 c = search needs
 
--- src/readings.rt:154:13
 add-corners-6 : tie.Need-add-corners-6
 add-corners-6 c = search needs
 
--- src/readings.rt:154:5
 mul-corners-7 : tie.Need-mul-corners-7
 mul-corners-7 c = search needs
 
--- src/readings.rt:154:5
 slice-write-corners-7 : tie.Need-slice-write-corners-7
 slice-write-corners-7 c = simp length-set (omega arith)
 
--- src/readings.rt:155:23
 index-1-corners-8 : tie.Need-index-1-corners-8
 index-1-corners-8 c = search needs
 
--- src/readings.rt:155:23
 index-2-corners-8 : tie.Need-index-2-corners-8
 index-2-corners-8 c = search needs
 
--- src/readings.rt:155:23
 index-3-corners-8 : tie.Need-index-3-corners-8
 index-3-corners-8 c = search needs
 
--- src/readings.rt:155:13
 add-corners-7 : tie.Need-add-corners-7
 add-corners-7 c = search needs
 
--- src/readings.rt:155:5
 mul-corners-8 : tie.Need-mul-corners-8
 mul-corners-8 c = search needs
 
--- src/readings.rt:155:5
 slice-write-corners-8 : tie.Need-slice-write-corners-8
 slice-write-corners-8 c = simp length-set (omega arith)
 
--- src/readings.rt:144:1
 same-length : tie.Need-same-length
 same-length c = simp length-set
 
--- src/readings.rt:144:1
 returns : tie.Need-returns
 unfolding stored
 returns c = refl

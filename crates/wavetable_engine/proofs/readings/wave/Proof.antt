@@ -1,45 +1,35 @@
+-- `wavetable_engine::readings::wave` meets its contract.
 use native.Mathlib.Omega.{arith}
 use mathlib.Core.Path.{sym}
-use Rattle.wavetable_engine.proofs.Waves.{wave-low, wave-top}
 use borrow.Author.Needs.{needs}
+use Rattle.wavetable_engine.proofs.Waves.{wave-low, wave-top}
 use Rattle.wavetable_engine.proofs.readings.wave.Statement.{statement}
 use Rattle.wavetable_engine.proofs.readings.wave.Tie as tie
-use Rattle.wavetable_engine.proofs.readings.wave.Reads as reads
-use Rattle.wavetable_engine.proofs.readings.wave.Lts as lts
 
--- src/readings.rt:61:15
 mul-result : tie.Need-mul-result
 mul-result c = search needs
 
--- src/readings.rt:61:11
 add-result : tie.Need-add-result
 add-result c = search needs
 
--- src/readings.rt:61:10
 mul-result-2 : tie.Need-mul-result-2
 mul-result-2 c = search needs
 
--- src/readings.rt:63:13
 mul-result-3 : tie.Need-mul-result-3
 mul-result-3 c = search needs
 
--- src/readings.rt:63:9
 add-result-2 : tie.Need-add-result-2
 add-result-2 c = search needs
 
--- src/readings.rt:63:21
 mul-result-4 : tie.Need-mul-result-4
 mul-result-4 c = search needs
 
--- src/readings.rt:63:9
 add-result-3 : tie.Need-add-result-3
 add-result-3 c = search needs
 
--- src/readings.rt:56:1
 returns : tie.Need-returns
 returns c = rw (c .if1 .taken) (sym (wave-top _ _))
 
--- src/readings.rt:56:1
 returns-2 : tie.Need-returns-2
 returns-2 c = sym (wave-low _ _ _ (omega arith) (omega arith) (omega arith) (c .if1 .left))
 
