@@ -1,6 +1,6 @@
 -- No more rows or edits are read than there are words for; and the program goes by what was read.
 use mathlib.Core.Path.{_≡_, refl, sym, ap, _∙_}
-use mathlib.Core.Bool.{Bool, true, false, cond, _||_}
+use mathlib.Core.Bool.{Bool, true, false, cond}
 use mathlib.Core.List.{List, [], _∷_, _++_}
 use Prim.Native.Nat.{ℕ, _+_, _*_, _≤_}
 use native.Mathlib.Omega.{arith}
@@ -9,10 +9,10 @@ use lib.Dec.{eqb, ltb, eqb→eq}
 use lib.ListN.{length, drop, length-replicate}
 use Rattle.score.specs.declared.reader.ReadAnswer.{ReadAnswer}
 use Rattle.score.specs.Limits.{rowWords}
-use Rattle.score.specs.Numbers.{Result, success, refused, resultOf, spaceNumber, rowsNumber}
-use Rattle.score.specs.Reading.{Outcome, outcome, refuse, store, testText, textRows, scoreNames, editNames, settleScore, settleEdits, readOf, readEditsOf, editWords}
+use Rattle.score.specs.Numbers.{Result, success, refused, resultOf, spaceNumber}
+use Rattle.score.specs.Reading.{Outcome, outcome, refuse, store, testText, textRows, editNames, settleEdits, readOf, readEditsOf, editWords}
 use Rattle.score.specs.Text.{linesOf}
-use Rattle.score.specs.Reading as reading
+use Rattle.score.proofs.Accepted as reader
 use Rattle.take.specs.Take.{bankNumber}
 use Rattle.retake_lib.specs.declared.inputs.Inputs.{Inputs}
 use Rattle.retake_lib.specs.declared.inputs.Inputs.the-variants.{Taken, Turned}
@@ -32,23 +32,13 @@ store-fits words count rows lent n h = pick (ltb (length lent) (words * count)) 
     pick true e h = refused-not spaceNumber 0 n h
     pick false e h = let m : count ≡ n = cc in rw (sym m) (omega (arith, ltb-false (length lent) (words * count) e))
 
-score-fits : (r : Result) (rows lent : List ℕ) (n : ℕ) → settleScore r rows lent .result ≡ success n → rowWords * n ≤ length lent
-unfolding settleScore
-score-fits (refused a place) rows lent n h = refused-not a place n h
-score-fits (success count) rows lent n h = pick (eqb count 0 || ltb reading.mostRows count) h
-  where
-    pick : (b : Bool) → cond b (refuse rowsNumber 0 lent) (store rowWords count rows lent) .result ≡ success n → rowWords * n ≤ length lent
-    pick true h = refused-not rowsNumber 0 n h
-    pick false h = store-fits rowWords count rows lent n h
-
 edits-fit : (r : Result) (rows lent : List ℕ) (n : ℕ) → settleEdits r rows lent .result ≡ success n → editWords * n ≤ length lent
 unfolding settleEdits
 edits-fit (refused a place) rows lent n h = refused-not a place n h
 edits-fit (success count) rows lent n h = store-fits editWords count rows lent n h
 
 read-fits : (text lent : List ℕ) (n : ℕ) → readOf text lent .result ≡ success n → rowWords * n ≤ length lent
-unfolding readOf
-read-fits text lent n h = score-fits (testText scoreNames true (linesOf text)) (textRows scoreNames (linesOf text)) lent n h
+read-fits text lent n h = reader.accepted text lent n h .space
 
 read-edits-fits : (text lent : List ℕ) (n : ℕ) → readEditsOf text lent .result ≡ success n → editWords * n ≤ length lent
 unfolding readEditsOf

@@ -3,6 +3,7 @@ ghost use mathlib.Core.Path.{_≡_};
 ghost use Rattle.score.specs.Numbers.{resultOf};
 ghost use Rattle.score.specs.Reading.{outcome, readOf, readEditsOf};
 ghost use Rattle.retake_lib.specs.Program.{textOf, inputsOf};
+use score::numbers::SPACE;
 use score::reader::ReadAnswer;
 
 // How many rows and edits the texts have, or the number and the place of the first refusal.
@@ -23,7 +24,7 @@ pub fn read_score(text: &[u8], rows: &mut [u32]) -> ReadAnswer
     ensures { λ r. ⌜ outcome r (now (rows .exit)) ≡ textOf readOf (now (text .entry)) (now (rows .entry)) ⌝ }
 {
     if text.len() > MOST_TEXT {
-        return ReadAnswer::Refused(score::reader::SPACE, 0);
+        return ReadAnswer::Refused(SPACE, 0);
     }
     score::reader::read(text, rows)
 }
@@ -33,7 +34,7 @@ pub fn read_edits(text: &[u8], edits: &mut [u32]) -> ReadAnswer
     ensures { λ r. ⌜ outcome r (now (edits .exit)) ≡ textOf readEditsOf (now (text .entry)) (now (edits .entry)) ⌝ }
 {
     if text.len() > MOST_TEXT {
-        return ReadAnswer::Refused(score::reader::SPACE, 0);
+        return ReadAnswer::Refused(SPACE, 0);
     }
     score::reader::read_edits(text, edits)
 }

@@ -11,8 +11,8 @@ use crate::printing::put_answer;
 use crate::printing::put_heading;
 use score::limits::ROW_WORDS;
 use score::reader::EDIT_WORDS;
-
-const INSTRUMENT: u32 = 0;
+use voice::KEPT_WORDS;
+use voice::WAVETABLE;
 
 // Hz
 const RATE: u32 = 48000;
@@ -20,9 +20,6 @@ const RATE: u32 = 48000;
 pub const FRAMES: usize = 24;
 
 pub const MOST_ROWS: usize = 128;
-
-// The words kept after a row.
-const KEPT_WORDS: usize = 13;
 
 // The samples of a bank.
 const BANK_LENGTH: usize = 25344;
@@ -53,7 +50,7 @@ fn edit(
         edits[a + 5],
     ];
     let answer = take::edit(
-        INSTRUMENT,
+        WAVETABLE,
         RATE,
         FRAMES,
         bank,
@@ -110,7 +107,7 @@ fn play_words(
     requires { ⌜ Room (length (now out)) count (now edits) (now printed) (now «out_file») (now «aux_file») ⌝ }
     ensures { λ r. ⌜ Played (played (settingsWith (now (bank .entry))) (now (rows .entry)) (lent (now (out .entry)) (now (aux .entry)) (now (kept .entry))) (editsFrom count (now (edits .entry)))) (now (printed .entry)) (now (printed .exit)) (now («out_file» .exit)) (now («aux_file» .exit)) r ⌝ }
 {
-    take::render(INSTRUMENT, RATE, FRAMES, bank, b"", rows, out, aux, kept);
+    take::render(WAVETABLE, RATE, FRAMES, bank, b"", rows, out, aux, kept);
     let at = put_heading(printed);
     let end = edit_all(bank, edits, count, rows, out, aux, kept, printed, at);
     formats::put_words(out, out_file);
