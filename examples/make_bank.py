@@ -3,7 +3,8 @@
 
 192 waves of 132 samples (i16, low byte first), 3 banks of 8 by 8, made here by adding up partials: sines and drawbars, saw and
 pulse shapes, formants. The engine differentiates what it reads, so a wave is stored as its running sum, 1,024 for a full-scale
-sample, and its first four samples are repeated behind the 128 of its period."""
+sample, and its first four samples are repeated behind the 128 of its period. Partials are cosines, so that each sum starts near 0
+and a restart doesn't click."""
 import math
 import struct
 import sys
@@ -27,7 +28,7 @@ def partials(bank, row, column):
 
 def wave(bank, row, column):
     amplitudes = partials(bank, row, column)
-    samples = [sum(a * math.sin(2 * math.pi * p * n / SIZE) for p, a in amplitudes.items()) for n in range(SIZE)]
+    samples = [sum(a * math.cos(2 * math.pi * p * (n + 0.5) / SIZE) for p, a in amplitudes.items()) for n in range(SIZE)]
     top = max(abs(s) for s in samples)
     total, sums = 0.0, []
     for s in samples:

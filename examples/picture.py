@@ -33,14 +33,10 @@ def run(with_edits):
 
 
 def lane(samples, top, colour):
-    """A waveform: the lowest and highest sample of each column of pixels."""
-    per = max(1, len(samples) // WIDTH)
+    """A waveform, scaled to its largest sample."""
     middle, scale = top + LANE / 2, LANE / 2.2 / max(abs(s) for s in samples)
-    points = []
-    for x in range(WIDTH):
-        part = samples[x * len(samples) // WIDTH : x * len(samples) // WIDTH + per + 1]
-        points.append('<line x1="%d" x2="%d" y1="%.1f" y2="%.1f"/>' % (LEFT + x, LEFT + x, middle - scale * max(part), middle - scale * min(part)))
-    return '<g stroke="%s" stroke-width="1">%s</g>' % (colour, "".join(points))
+    points = " ".join("%.1f,%.1f" % (LEFT + i * WIDTH / len(samples), middle - scale * s) for i, s in enumerate(samples))
+    return '<polyline fill="none" stroke="%s" points="%s"/>' % (colour, points)
 
 
 def main():
