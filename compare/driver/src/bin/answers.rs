@@ -2,9 +2,9 @@
 //!
 //!     answers FOLDER
 //!
-//! FOLDER/data/scores.bin has the scores and FOLDER/stdout what the program must print.
+//! FOLDER/stdin has the scores and FOLDER/stdout what the program must print: crates/replay is such a folder.
 //!
-//! scores.bin is words, low byte first: the number of scores, and for each score
+//! stdin is words, low byte first: the number of scores, and for each score
 //!     instrument, rate, frames, seed, rows n, edits m
 //!     n rows of five words
 //!     m edits of six words: the row's number, then its five words
@@ -187,8 +187,7 @@ fn main() {
     }
     let folder = Path::new(&folder);
     let bytes: Vec<u8> = scores.iter().flat_map(|w| w.to_le_bytes()).collect();
-    fs::create_dir_all(folder.join("data")).expect("FOLDER/data");
-    fs::write(folder.join("data/scores.bin"), &bytes).expect("scores.bin");
+    fs::write(folder.join("stdin"), &bytes).expect("FOLDER/stdin");
     fs::write(folder.join("stdout"), &stdout).expect("stdout");
     println!("{} scores, {} bytes of scores, {} lines to print", list.len(), bytes.len(), stdout.lines().count());
 }

@@ -1,0 +1,64 @@
+-- Each place of `rows` is within it, and four bytes for each place end below the largest number.
+use Prim.Native.Nat.{_-_, _≤_}
+use mathlib.Core.Path.{_≡_}
+use lib.ListN.{length}
+use borrow.Author.Needs.{needs}
+use Rattle.replay.proofs.copy_words.Statement.{statement}
+use Rattle.replay.proofs.copy_words.Tie as tie
+
+abbrev Inv-loop : tie.InvT-loop
+Inv-loop file at rows₀ i₀ rows i = (i ≤ length rows₀) × (length rows ≡ length rows₀)
+
+abbrev μ-loop : tie.MeasureT-loop
+μ-loop file at rows₀ i₀ rows i = length rows₀ - i
+
+loop-holds : tie.Need-loop-holds Inv-loop μ-loop
+loop-holds c = search needs
+
+mul-word : tie.Need-mul-word Inv-loop μ-loop
+mul-word c = search needs
+
+add-word : tie.Need-add-word Inv-loop μ-loop
+add-word c = search needs
+
+word-requires : tie.Need-word-requires Inv-loop μ-loop
+word-requires c κs = search needs
+
+mul-rows : tie.Need-mul-rows Inv-loop μ-loop
+mul-rows c = search needs
+
+slice-write-rows : tie.Need-slice-write-rows Inv-loop μ-loop
+slice-write-rows c = search needs
+
+add-i : tie.Need-add-i Inv-loop μ-loop
+add-i c = search needs
+
+loop-less : tie.Need-loop-less Inv-loop μ-loop
+loop-less c = search needs
+
+loop-again : tie.Need-loop-again Inv-loop μ-loop
+loop-again c = search needs
+
+same-length : tie.Need-same-length Inv-loop μ-loop
+same-length c = search needs
+
+returns : tie.Need-returns Inv-loop μ-loop
+returns c = search needs
+
+pub copy-words-spec : {M : Type 1} → statement M
+copy-words-spec =
+    tie.close
+    (tie.spec
+    Inv-loop
+    μ-loop
+    loop-holds
+    mul-word
+    add-word
+    word-requires
+    mul-rows
+    slice-write-rows
+    add-i
+    loop-less
+    loop-again
+    same-length
+    returns)

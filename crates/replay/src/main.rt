@@ -1,0 +1,368 @@
+// Replays the Rust's answers: renders and edits the scores of its input and prints what the file `stdout` holds, which the original made
+// (compare/driver/src/bin/answers.rs says how).
+//
+// The input has words, low byte first: the number of scores, and for each score instrument, rate, frames, seed, rows n and edits m; n rows of
+// five words; m edits of six words, the row's number and then its five words. The bank and the map of a score come from its seed.
+ghost use mathlib.Core.Path.{_≡_};
+ghost use Prim.Native.Nat.{_+_, _≤_, _<_};
+ghost use lib.ListN.{length};
+use libc::STDIN_FILENO;
+use libc::STDOUT_FILENO;
+use take::Answer;
+
+const BANK: usize = 25344;
+
+const MAP: usize = 4096;
+
+const MOST_ROWS: usize = 64;
+
+const MOST_FRAMES: usize = 128;
+
+const MOST_SAMPLES: usize = 8192;
+
+const MOST_EDITS: usize = 8;
+
+const MOST_BYTES: usize = 65536;
+
+// What a score is played with, and where its rows start in the file.
+struct Score {
+    instrument: u32,
+    rate: u32,
+    frames: usize,
+    seed: u32,
+    rows: usize,
+    edits: usize,
+    at: usize,
+}
+
+// A byte as a word.
+fn wide(x: u8) -> u32
+    ensures { λ r. ⌜ r < 256 ⌝ }
+{
+    x as u32
+}
+
+// The word at byte `at` of a file, 0 past its end.
+fn word(file: &[u8], at: usize) -> u32 {
+    if at < file.len() {
+        if 3 < file.len() - at {
+            let low = wide(file[at]) + wide(file[at + 1]) * 256;
+            let high = wide(file[at + 2]) + wide(file[at + 3]) * 256;
+            return low + high * 65536;
+        }
+    }
+    0
+}
+
+// The next number of a series that any language can make.
+fn next(s: u32) -> u32 {
+    (((s as u64) * 1664525 + 1013904223) % 4294967296) as u32
+}
+
+// The bytes of a bank: each sample is the upper half of a number of the series, less 32,768. Gives the number that the series has come to.
+fn fill_bank(seed: u32, bytes: &mut [u8]) -> u32
+    requires { ⌜ length (now bytes) ≡ 50688 ⌝ }
+{
+    let mut s = seed;
+    let mut i = 0;
+    while i < BANK {
+        s = next(s);
+        let n = (s / 65536 + 32768) % 65536;
+        bytes[i * 2] = (n % 256) as u8;
+        bytes[i * 2 + 1] = (n / 256) as u8;
+        i += 1;
+    }
+    s
+}
+
+// The bytes of a map: each is the highest byte of a number of the series.
+fn fill_map(seed: u32, map: &mut [u8]) {
+    let mut s = seed;
+    let mut i = 0;
+    while i < map.len() {
+        s = next(s);
+        map[i] = (s / 16777216) as u8;
+        i += 1;
+    }
+}
+
+// Words of the file, from byte `at` on, into as many places.
+fn copy_words(file: &[u8], at: usize, rows: &mut [u32])
+    requires { ⌜ at < 1000000 ⌝ }
+{
+    let mut i = 0;
+    while i < rows.len() {
+        rows[i] = word(file, at + i * 4);
+        i += 1;
+    }
+}
+
+// A check number, with one word more.
+fn mixed(h: u64, w: u32) -> u64
+    requires { ⌜ h < 4294967291 ⌝ }
+    ensures { λ r. ⌜ r < 4294967291 ⌝ }
+{
+    (65599 * h + (w as u64)) % 4294967291
+}
+
+// A number that tells one list of words from another.
+fn check(words: &[u32]) -> u64 {
+    let mut h = 0;
+    let mut i = 0;
+    while i < words.len() {
+        h = mixed(h, words[i]);
+        i += 1;
+    }
+    h
+}
+
+fn print(text: &[u8]) {
+    io::write_all(STDOUT_FILENO, text);
+}
+
+fn print_number(n: u64) {
+    print(b" ");
+    io::print_decimal(STDOUT_FILENO, n);
+}
+
+// The two numbers of a call's success, or of its refusal.
+fn print_answer(answer: Answer) {
+    match answer {
+        Answer::Done(rows, held) => {
+            print_number(rows as u64);
+            print_number(held as u64);
+        }
+        Answer::Refused(number, place) => {
+            print(b" refused");
+            print_number(number as u64);
+            print_number(place as u64);
+        }
+    }
+}
+
+fn print_take(out: &[u32], aux: &[u32], kept: &[u32]) {
+    print_number(check(out));
+    print_number(check(aux));
+    print_number(check(kept));
+    print(b"\n");
+}
+
+// The edit that stands at byte `at`, and its line.
+fn edit_one(
+    file: &[u8],
+    s: Score,
+    at: usize,
+    bank: &[i16],
+    map: &[u8],
+    rows: &mut [u32],
+    out: &mut [u32],
+    aux: &mut [u32],
+    kept: &mut [u32],
+)
+    requires { ⌜ at < 1000000 ⌝ }
+{
+    let position = word(file, at);
+    let row = [
+        word(file, at + 4),
+        word(file, at + 8),
+        word(file, at + 12),
+        word(file, at + 16),
+        word(file, at + 20),
+    ];
+    let answer = take::edit(
+        s.instrument,
+        s.rate,
+        s.frames,
+        bank,
+        map,
+        rows,
+        position as usize,
+        row,
+        out,
+        aux,
+        kept,
+    );
+    print(b"edit");
+    print_number(position as u64);
+    print_answer(answer);
+    print(b"\n");
+}
+
+// The edits of a score that was rendered, which stand at byte `from`.
+fn edit_all(
+    file: &[u8],
+    s: Score,
+    from: usize,
+    bank: &[i16],
+    map: &[u8],
+    rows: &mut [u32],
+    out: &mut [u32],
+    aux: &mut [u32],
+    kept: &mut [u32],
+)
+    requires { ⌜ (from < 900000) × (s .edits ≤ 8) ⌝ }
+{
+    let mut i = 0;
+    while i < s.edits {
+        edit_one(file, s, from + i * 24, bank, map, rows, out, aux, kept);
+        i += 1;
+    }
+}
+
+// The score whose numbers stand at byte `at`.
+fn score_at(file: &[u8], at: usize) -> Score
+    requires { ⌜ at < 900000 ⌝ }
+    ensures { λ r. ⌜ r .at ≡ at + 24 ⌝ }
+{
+    Score {
+        instrument: word(file, at),
+        rate: word(file, at + 4),
+        frames: word(file, at + 8) as usize,
+        seed: word(file, at + 12),
+        rows: word(file, at + 16) as usize,
+        edits: word(file, at + 20) as usize,
+        at: at + 24,
+    }
+}
+
+// The bytes of the map that an instrument takes.
+fn map_length(instrument: u32) -> usize
+    ensures { λ r. ⌜ r ≤ 4096 ⌝ }
+{
+    if instrument == 2 { MAP } else { 0 }
+}
+
+// Renders a score and prints its line.
+fn render_one(
+    s: Score,
+    bank: &[i16],
+    map: &[u8],
+    rows: &[u32],
+    out: &mut [u32],
+    aux: &mut [u32],
+    kept: &mut [u32],
+) {
+    let answer = take::render(
+        s.instrument,
+        s.rate,
+        s.frames,
+        bank,
+        map,
+        rows,
+        out,
+        aux,
+        kept,
+    );
+    print(b"render");
+    print_answer(answer);
+    print_take(out, aux, kept);
+}
+
+// The line of a take after its edits, where there were any.
+fn print_edited(edits: usize, out: &[u32], aux: &[u32], kept: &[u32]) {
+    if edits > 0 {
+        print(b"take");
+        print_take(out, aux, kept);
+    }
+}
+
+// Renders a score and edits it, in lent words.
+fn perform(
+    file: &[u8],
+    s: Score,
+    bank: &[i16],
+    map: &[u8],
+    rows: &mut [u32],
+    out: &mut [u32],
+    aux: &mut [u32],
+    kept: &mut [u32],
+)
+    requires { ⌜ (s .at < 800000) × ((s .rows ≤ 64) × (s .edits ≤ 8)) ⌝ }
+{
+    let from = s.at + s.rows * 20;
+    copy_words(file, s.at, rows);
+    render_one(s, bank, map, rows, out, aux, kept);
+    edit_all(file, s, from, bank, map, rows, out, aux, kept);
+    print_edited(s.edits, out, aux, kept);
+}
+
+// The bank and the map of a seed.
+fn fill_tables(seed: u32, bank: &mut [i16], map: &mut [u8])
+    requires { ⌜ length (now bank) ≡ 25344 ⌝ }
+{
+    let mut bytes = [0u8; BANK * 2];
+    let s = fill_bank(seed, &mut bytes);
+    formats::samples_of(&bytes, bank);
+    fill_map(s, map);
+}
+
+// The samples of a score of at most 64 rows and 128 frames.
+fn sample_count(rows: usize, frames: usize) -> usize
+    requires { ⌜ (rows ≤ 64) × (frames ≤ 128) ⌝ }
+    ensures { λ r. ⌜ r ≤ 8192 ⌝ }
+{
+    rows * frames
+}
+
+// Renders and edits a score of at most 64 rows, 128 frames and 8 edits, with the bank and the map of its seed.
+fn play(file: &[u8], s: Score)
+    requires { ⌜ (s .at < 800000) × ((s .rows ≤ 64) × ((s .frames ≤ 128) × (s .edits ≤ 8))) ⌝ }
+{
+    let words = s.rows * 5;
+    let samples = sample_count(s.rows, s.frames);
+    let keeps = s.rows * 13;
+    let maps = map_length(s.instrument);
+    let mut bank = [0i16; BANK];
+    let mut map = [0u8; MAP];
+    fill_tables(s.seed, &mut bank, &mut map);
+    let mut rows = [0u32; MOST_ROWS * 5];
+    let mut out = [0u32; MOST_SAMPLES];
+    let mut aux = [0u32; MOST_SAMPLES];
+    let mut kept = [0u32; MOST_ROWS * 13];
+    perform(
+        file,
+        s,
+        &bank,
+        &map[..maps],
+        &mut rows[..words],
+        &mut out[..samples],
+        &mut aux[..samples],
+        &mut kept[..keeps],
+    );
+}
+
+// Plays the score at byte `at`. Where the next one stands, or past the file where there is none or this one is too large.
+fn play_at(file: &[u8], at: usize) -> usize {
+    if at >= MOST_BYTES {
+        return MOST_BYTES;
+    }
+    let s = score_at(file, at);
+    if s.rows > MOST_ROWS {
+        return MOST_BYTES;
+    }
+    if s.frames > MOST_FRAMES {
+        return MOST_BYTES;
+    }
+    if s.edits > MOST_EDITS {
+        return MOST_BYTES;
+    }
+    play(file, s);
+    s.at + s.rows * 20 + s.edits * 24
+}
+
+// Plays each score of the file, in order.
+fn play_all(file: &[u8]) {
+    let count = word(file, 0);
+    let mut at = 4;
+    let mut i = 0;
+    while i < count {
+        at = play_at(file, at);
+        i += 1;
+    }
+}
+
+fn main() {
+    let mut buffer = [0u8; MOST_BYTES];
+    let got = io::read_full(STDIN_FILENO, &mut buffer);
+    play_all(&buffer[..got]);
+}
