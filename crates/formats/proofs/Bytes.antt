@@ -166,6 +166,10 @@ below n l h = toZ-pos w16 {n = 65535 - n} (omega arith)
 pub below-fits : (n : ℕ) → 32768 ≤ n → n < 65536 → SFits w16 (negsuc 0 -ℤ toZ w16 (65535 - n))
 below-fits n l h = rw (below n l h, minus-one (65535 - n)) (record { sfits = omega arith })
 
+pub above-is : (n : ℕ) → n < 32768 → toZ w16 n ≡ i16Of n
+unfolding i16Of
+above-is n h = toZ-pos w16 h ∙ sym (ap (λ (b : Bool). cond b (pos n) (negsuc (65535 - n))) (lt-ltb n 32768 h))
+
 pub below-is : (n : ℕ) → 32768 ≤ n → n < 65536 → toZ w16 (ofZ w16 (negsuc 0 -ℤ toZ w16 (65535 - n))) ≡ i16Of n
 unfolding i16Of
 below-is n l h = toZ-ofZ (below-fits n l h) ∙ ap (λ (z : ℤ). negsuc 0 -ℤ z) (below n l h) ∙ minus-one (65535 - n) ∙ sym (ap (λ (b : Bool). cond b (pos n) (negsuc (65535 - n))) (le-ltb n 32768 l))

@@ -1,12 +1,7 @@
 -- `formats::i16_of` meets its contract.
 use native.Mathlib.Omega.{arith}
-use mathlib.Core.Path.{_∙_}
-use mir.Syntax.{w16}
-use mir.Facts.{toZ-pos, toZ-ofZ}
-use borrow.Author.Tests.{lt-ltb, le-ltb}
 use borrow.Author.Needs.{needs}
-use Rattle.formats.specs.Formats.{i16Of}
-use Rattle.formats.proofs.Bytes.{below-fits, below-is}
+use Rattle.formats.proofs.Bytes.{below-fits, above-is, below-is}
 use Rattle.formats.proofs.i16_of.Statement.{statement}
 use Rattle.formats.proofs.i16_of.Tie as tie
 
@@ -29,8 +24,7 @@ sub-result-2 : tie.Need-sub-result-2
 sub-result-2 c = below-fits _ (c .if1 .left) (omega arith)
 
 returns : tie.Need-returns
-unfolding i16Of
-returns c = toZ-pos w16 (c .if1 .taken) ∙ simp (lt-ltb _ _ (c .if1 .taken))
+returns c = above-is _ (c .if1 .taken)
 
 returns-2 : tie.Need-returns-2
 returns-2 c = below-is _ (c .if1 .left) (omega arith)
