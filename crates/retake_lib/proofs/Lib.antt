@@ -3,3 +3,4 @@ pub mod Writing
 pub mod Editing
 pub mod Outputs
 pub mod Texts
+pub mod Files

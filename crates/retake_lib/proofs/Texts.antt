@@ -18,7 +18,7 @@ use Rattle.retake_lib.specs.declared.inputs.Inputs.{Inputs}
 use Rattle.retake_lib.specs.declared.inputs.Inputs.the-variants.{Taken, Turned}
 use Rattle.retake_lib.specs.Program.{mostText, mostRows, mostEdits, bankBytes, zeros, textOf, scoreText, editsText, inputsOf, turned, refusedLine, outputOf, program, Written, Given, Ran}
 
-refused-not : {A : Type 0} (n place count : ℕ) → refused n place ≡ success count → A
+pub refused-not : {A : Type 0} (n place count : ℕ) → refused n place ≡ success count → A
 refused-not n place count h = let z : _≡_ {A = ℕ} 0 1 = cc in absurd (omega arith)
 
 -- ---- words enough

@@ -15,7 +15,7 @@ use Rattle.score.specs.Reading as reading
 use Rattle.take.specs.declared.Answer.{Answer}
 use Rattle.take.specs.declared.Answer.the-variants.{Done, Refused}
 use Rattle.take.specs.Take.{Settings, settings, Take, lent, keptCount, bankNumber, Outcome, outcome, renderOf}
-use Rattle.take.specs.Retakes.{Edit, edited, after}
+use Rattle.take.specs.Retakes.{Edit, edited, after, scoreAfter, fresh, takeOf}
 use Rattle.retake_lib.specs.declared.inputs.Inputs.{Inputs}
 use Rattle.retake_lib.specs.declared.inputs.Inputs.the-variants.{Taken, Turned}
 
@@ -143,6 +143,13 @@ outputOf (Taken n m) rows edits bank = played (settingsOf bank) (take (n * rowWo
 unfoldable pub program : List ℕ → List ℕ → List ℕ → Output
 program score edits bank =
     outputOf (inputsOf (scoreText score .result) (editsText edits .result) (length bank)) (scoreText score .rows) (editsText edits .rows) bank
+
+-- Demand 3 as far as the files: they hold the fresh rendering of the score with each accepted edit's row put in.
+abbrev pub FilesFresh : Type 0
+FilesFresh =
+    (score edits bank : List ℕ) (n m : ℕ) → inputsOf (scoreText score .result) (editsText edits .result) (length bank) ≡ Taken n m
+    → let last = takeOf (fresh (settingsOf bank) (scoreAfter (take (n * rowWords) (scoreText score .rows)) (editsFrom m (editsText edits .rows)))) in
+    (program score edits bank .out ≡ lowFirst (last .out)) × (program score edits bank .aux ≡ lowFirst (last .aux))
 
 -- ---- What a function below may count on, and what it leaves.
 
