@@ -3,7 +3,7 @@
 use driver::cases::{self, Case};
 use driver::library;
 use driver::random::Random;
-use model::take::{self, demand_3, fresh};
+use model::take::{self, Row, demand_3, fresh};
 use model::{Answer, KEPT_WORDS, ROW_WORDS, Take};
 
 use crate::tally::{Tally, fail, same};
@@ -23,6 +23,20 @@ pub fn rendering(case: &Case, lent: Take, tally: &mut Tally) {
         }
         Answer::Refused(number, _) => tally.add(format!("render: refused by {number:2}"), 1),
     }
+}
+
+/// The library's whole rendering of a score, beside the fresh rendering that was held to the original.
+pub fn library_is_fresh(case: &Case, fresh: &[Row], mut lent: Take, tally: &mut Tally) {
+    let held = fresh.iter().map(|r| r.block.held).sum();
+    let answer = library::render(&case.setup(), &case.rows, &mut lent);
+    same("answer of a fresh rendering", case, answer, Answer::Done(fresh.len() as u64, held));
+    let expected = Take {
+        out: fresh.iter().flat_map(|r| r.block.out.clone()).collect(),
+        aux: fresh.iter().flat_map(|r| r.block.aux.clone()).collect(),
+        kept: fresh.iter().flat_map(|r| r.kept).collect(),
+    };
+    same_take("fresh rendering", case, &lent, &expected);
+    tally.add("fresh: samples of the library, equal to the same (out and aux)", 2 * lent.out.len() as u64);
 }
 
 fn same_take(what: &str, case: &Case, found: &Take, expected: &Take) {

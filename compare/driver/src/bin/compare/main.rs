@@ -17,7 +17,7 @@ use driver::cases::Case;
 use driver::original;
 use driver::random::Random;
 
-use calls::{edits, junk_edits, refusals, rendering};
+use calls::{edits, junk_edits, library_is_fresh, refusals, rendering};
 use tally::Tally;
 use texts::{programs, texts};
 use voices::{model_is_original, model_is_original_on_any_state};
@@ -34,7 +34,9 @@ fn main() {
 
     facts::facts(&published, random, &mut tally);
     for _ in 0..1500 * scale {
-        model_is_original(&Case::random(random, &published, 90), &mut tally);
+        let case = Case::random(random, &published, 90);
+        let fresh = model_is_original(&case, &mut tally);
+        library_is_fresh(&case, &fresh, case.junk_take(random), &mut tally);
     }
     for _ in 0..20_000 * scale {
         let case = Case::random(random, &published, 1);
