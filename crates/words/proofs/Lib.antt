@@ -8,4 +8,6 @@ pub mod Parts
 pub mod Values
 pub mod ByRounding
 pub mod HeldWhole
+pub mod Copying
+pub mod Places
 pub mod Bench

@@ -1,0 +1,27 @@
+-- Lists of numbers as the calls are lent them, words or bytes: parts of one length, numbers put in the place of others, and what stays.
+use Prim.Native.Nat.{ℕ, _*_}
+use mathlib.Core.Path.{_≡_}
+use mathlib.Core.List.{List, [], _∷_, _++_}
+use mathlib.Core.Bool.{Bool, true, false, _&&_}
+use lib.Dec.{eqb}
+use lib.ListN.{length, take, drop}
+
+-- Part i of a list that is cut into parts of n.
+abbrev pub part : ℕ → List ℕ → ℕ → List ℕ
+part n l i = take n (drop (i * n) l)
+
+-- Some numbers in the place of as many from a on.
+abbrev pub put : List ℕ → ℕ → List ℕ → List ℕ
+put l a new = take a l ++ (new ++ drop (length new) (drop a l))
+
+-- Whether two lists are the same numbers.
+unfoldable pub same : List ℕ → List ℕ → Bool
+same [] [] = true
+same [] (y ∷ ys) = false
+same (x ∷ xs) [] = false
+same (x ∷ xs) (y ∷ ys) = eqb x y && same xs ys
+
+-- Lists cut into parts of n: outside parts a to b - 1 the new one is as the old one was.
+pub record Outside (n a b : ℕ) (old new : List ℕ) : Type 0 where
+  pub before : take (a * n) new ≡ take (a * n) old
+  pub behind : drop (b * n) new ≡ drop (b * n) old
