@@ -1,0 +1,51 @@
+-- What the functions of this crate require and ensure among themselves: that rows lie within the lent words, and that a row is made and written.
+use Prim.Native.Nat.{ℕ, _+_, _*_, _≤_, _<_}
+use mathlib.Core.Path.{_≡_}
+use mathlib.Core.List.{List}
+use mathlib.Core.Bool.{Bool, cond}
+use lib.Dec.{eqb}
+use lib.ListN.{length}
+use Rattle.words.specs.Lists.{same}
+use Rattle.utils.specs.Frames.{mostFrames}
+use Rattle.utils.specs.Holds.{AtMost}
+use Rattle.utils.specs.declared.holds.Holds.{Holds}
+use Rattle.score.specs.Rows.{rowWords, mostRows}
+use Rattle.voice.specs.Voice.{keptCount}
+use Rattle.rows.specs.Rows.{Setup, Take, Row, keptAt, rowIn, putWords, stopsOf}
+
+-- A frame counts at most four holds: two oversamples times two layers.
+abbrev pub mostHeld : ℕ
+mostHeld = 4
+
+-- A block's frames.
+pub record Frames (frames : ℕ) : Type 0 where
+  pub frames-some : 0 < frames
+  pub frames-most : frames ≤ mostFrames
+
+-- The lent words hold n rows.
+pub record Holding (frames n : ℕ) (rows : List ℕ) (t : Take) : Type 0 where
+  pub frames-right : Frames frames
+  pub rows-most : n ≤ mostRows
+  pub rows-room : n * rowWords ≤ length rows
+  pub out-room : n * frames ≤ length (t .out)
+  pub aux-room : n * frames ≤ length (t .aux)
+  pub kept-room : n * keptCount ≤ length (t .kept)
+
+-- A row is made: its block's words, its kept words and its holds.
+pub record Makes (frames : ℕ) (m : Row) (holds : Holds) (out aux kept : List ℕ) : Type 0 where
+  pub out-is : out ≡ m .words .out
+  pub aux-is : aux ≡ m .words .aux
+  pub kept-is : kept ≡ m .words .kept
+  pub holds-is : holds ≡ m .holds
+  pub holds-most : AtMost (mostHeld * frames) holds
+
+-- Row k is made and written: its holds, whether it keeps the words that stood there, and the take with its words put in.
+pub record RowDone (s : Setup) (rows : List ℕ) (k : ℕ) (t : Take) (holds : Holds) (unchanged : Bool) (left : Take) : Type 0 where
+  pub holds-is : holds ≡ rowIn s rows (t .kept) k .holds
+  pub holds-most : AtMost (mostHeld * s .frames) holds
+  pub same-is : unchanged ≡ same (keptAt (t .kept) k) (rowIn s rows (t .kept) k .words .kept)
+  pub left-is : left ≡ putWords (s .frames) t k (rowIn s rows (t .kept) k .words)
+
+-- Where a stretch that ended before row e ends once row j is reached; 0 where the run stops.
+abbrev pub endOf : ℕ → ℕ → Bool → ℕ
+endOf j e stops = cond (eqb j e) (cond stops 0 (j + 1)) e
