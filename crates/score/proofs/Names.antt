@@ -8,7 +8,8 @@ use native.Mathlib.Omega.{arith}
 use lib.Dec.{eqb}
 use lib.ListN.{length, take, drop, set, length-set}
 use lib.Seq.{take-suc-set, append-snoc}
-use Rattle.score.specs.Text.{space, fieldsOf, same, columnOf, columnsOf}
+use Rattle.words.specs.Lists.{same}
+use Rattle.score.specs.Text.{space, fieldsOf, columnOf, columnsOf}
 use Rattle.score.specs.Inner.{mostNames}
 use Rattle.score.proofs.Split.{reach, rest, all-pieces, next-piece, no-piece}
 

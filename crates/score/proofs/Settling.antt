@@ -9,13 +9,15 @@ use borrow.Author.Tests.{lt-ltb, le-ltb, ne-eqb, eqb-true}
 use lib.Dec.{eqb}
 use lib.ListN.{length, take, drop}
 use Rattle.score.specs.declared.header.Header.{Header}
-use Rattle.score.specs.Limits.{rowWords}
-use Rattle.score.specs.Numbers.{success, refused, rowsNumber, namesNumber, spaceNumber}
+use Rattle.score.specs.Rows.{rowWords, mostRows}
+use Rattle.score.specs.declared.refusal.Refusal.{Refusal}
+use Rattle.score.specs.declared.reader.ReadAnswer.the-variants.{Read, Refused}
+use Rattle.score.specs.Numbers.{refusal, rowsNumber, namesNumber, spaceNumber}
 use Rattle.score.specs.Text.{bytes, split, Line, ended, unended, contents, linesOf, firstOf, fieldsOf, columnsOf, eachBelow, holdsNames, rowsOf}
-use Rattle.score.specs.Reading.{lineNumber, testLines, testText, textRows, refuse, store, scoreNames, mostRows, settleScore, readOf, editNames, editWords, settleEdits, readEditsOf}
+use Rattle.score.specs.Reading.{refusedAt, outcome, lineNumber, testLines, testText, textRows, refuse, store, scoreNames, settleScore, readOf, editNames, editWords, settleEdits, readEditsOf}
 use Rattle.score.specs.Inner.{Headed, Columns}
 use Rattle.score.proofs.Cases.{both}
-use Rattle.score.proofs.Rows.{unlimited, value}
+use Rattle.score.proofs.Values.{unlimited, value}
 use Rattle.score.proofs.Storing.{not-both}
 
 pub positive : (n : ℕ) → (n ≡ 0 → ⊥) → 0 < n
@@ -23,14 +25,14 @@ positive n h = omega arith
 
 -- ---- 12
 module _ (words count : ℕ) (some : 0 < words) (rows lent : List ℕ) where
-  pub no-space : length lent / words < count → refuse spaceNumber 0 lent ≡ store words count rows lent
+  pub no-space : length lent / words < count → refuse (refusal spaceNumber 0) lent ≡ store words count rows lent
   unfolding store
   no-space h = rw (lt-ltb (length lent) (words * count) (rw (mul-comm words count) (div-lt-iff-lt-mul some .0 h)))
 
   pub space : count ≤ length lent / words → words * count ≤ length lent
   space h = rw (mul-comm words count) (le-div-iff-mul-le some .0 h)
 
-  pub store-all : count ≤ length lent / words → record { result = success count; rows = rows ++ drop (words * count) lent } ≡ store words count rows lent
+  pub store-all : count ≤ length lent / words → outcome (Read count) (rows ++ drop (words * count) lent) ≡ store words count rows lent
   unfolding store
   store-all h = rw (le-ltb (length lent) (words * count) (space h))
 
@@ -43,7 +45,7 @@ held-columns names (ended bs) e =
 held-columns names (unended bs) e = absurd (false≢true e)
 
 module _ (names : List (List ℕ)) (text : List ℕ) (header : Header) (h : Headed names text header) where
-  pub not-named : (limited : Bool) → header .next ≡ 0 → testText names limited (linesOf text) ≡ refused namesNumber 0
+  pub not-named : (limited : Bool) → header .next ≡ 0 → testText names limited (linesOf text) ≡ refusedAt namesNumber 0
   unfolding testText
   not-named limited e = rw (h .holds, le-ltb 0 (header .next) (omega arith))
 
@@ -71,14 +73,14 @@ module _ (names : List (List ℕ)) (text : List ℕ) (header : Header) (h : Head
 free : (count : ℕ) (columns : List ℕ) (line : Line) → lineNumber count columns true line ≡ 0 → lineNumber count columns false line ≡ 0
 free count columns line e = unlimited count columns line (value count columns line true e) false refl
 
-pub passes-free : (count : ℕ) (columns : List ℕ) (lines : List Line) (at n : ℕ) → testLines count columns true at lines ≡ success n → testLines count columns false at lines ≡ success n
+pub passes-free : (count : ℕ) (columns : List ℕ) (lines : List Line) (at n : ℕ) → testLines count columns true at lines ≡ Read n → testLines count columns false at lines ≡ Read n
 unfolding testLines
 passes-free count columns [] at n e = e
 passes-free count columns (line ∷ lines) at n e = go (eqb (lineNumber count columns true line) 0) refl e (passes-free count columns lines (suc at) n)
   where
-    go : (b : Bool) → eqb (lineNumber count columns true line) 0 ≡ b → cond b (testLines count columns true (suc at) lines) (refused (lineNumber count columns true line) at) ≡ success n
-        → (testLines count columns true (suc at) lines ≡ success n → testLines count columns false (suc at) lines ≡ success n)
-        → cond (eqb (lineNumber count columns false line) 0) (testLines count columns false (suc at) lines) (refused (lineNumber count columns false line) at) ≡ success n
+    go : (b : Bool) → eqb (lineNumber count columns true line) 0 ≡ b → cond b (testLines count columns true (suc at) lines) (refusedAt (lineNumber count columns true line) at) ≡ Read n
+        → (testLines count columns true (suc at) lines ≡ Read n → testLines count columns false (suc at) lines ≡ Read n)
+        → cond (eqb (lineNumber count columns false line) 0) (testLines count columns false (suc at) lines) (refusedAt (lineNumber count columns false line) at) ≡ Read n
     go true f e g = rw (free count columns line (eqb-true (lineNumber count columns true line) 0 f)) (g e)
     go false f e g = absurd (not-both (lineNumber count columns true line) at n e)
 
@@ -92,19 +94,19 @@ unfolding scoreNames
 five-names = refl
 
 module _ (text lent : List ℕ) where
-  pub score-refused : (number place : ℕ) → testText scoreNames true (linesOf text) ≡ refused number place → refuse number place lent ≡ readOf text lent
+  pub score-refused : (r : Refusal) → testText scoreNames true (linesOf text) ≡ Refused r → refuse r lent ≡ readOf text lent
   unfolding readOf settleScore
-  score-refused number place e = rw e
+  score-refused r e = rw e
 
-  pub no-rows : (count : ℕ) → testText scoreNames true (linesOf text) ≡ success count → count ≡ 0 → refuse rowsNumber 0 lent ≡ readOf text lent
+  pub no-rows : (count : ℕ) → testText scoreNames true (linesOf text) ≡ Read count → count ≡ 0 → refuse (refusal rowsNumber 0) lent ≡ readOf text lent
   unfolding readOf settleScore
   no-rows count e z = rw (e, z)
 
-  pub many-rows : (count : ℕ) → testText scoreNames true (linesOf text) ≡ success count → mostRows < count → refuse rowsNumber 0 lent ≡ readOf text lent
+  pub many-rows : (count : ℕ) → testText scoreNames true (linesOf text) ≡ Read count → mostRows < count → refuse (refusal rowsNumber 0) lent ≡ readOf text lent
   unfolding readOf settleScore
   many-rows count e l = rw (e, ne-eqb count 0 (λ z. omega arith), lt-ltb mostRows count l)
 
-  pub score-stored : (count : ℕ) → testText scoreNames true (linesOf text) ≡ success count → (count ≡ 0 → ⊥) → count ≤ mostRows
+  pub score-stored : (count : ℕ) → testText scoreNames true (linesOf text) ≡ Read count → (count ≡ 0 → ⊥) → count ≤ mostRows
       → store rowWords count (textRows scoreNames (linesOf text)) lent ≡ readOf text lent
   unfolding readOf settleScore
   score-stored count e z l = rw (e, ne-eqb count 0 z, le-ltb mostRows count l)
@@ -119,10 +121,10 @@ unfolding scoreNames editNames
 six-names = refl
 
 module _ (text lent : List ℕ) where
-  pub edits-refused : (number place : ℕ) → testText editNames false (linesOf text) ≡ refused number place → refuse number place lent ≡ readEditsOf text lent
+  pub edits-refused : (r : Refusal) → testText editNames false (linesOf text) ≡ Refused r → refuse r lent ≡ readEditsOf text lent
   unfolding readEditsOf settleEdits
-  edits-refused number place e = rw e
+  edits-refused r e = rw e
 
-  pub edits-stored : (count : ℕ) → testText editNames false (linesOf text) ≡ success count → store editWords count (textRows editNames (linesOf text)) lent ≡ readEditsOf text lent
+  pub edits-stored : (count : ℕ) → testText editNames false (linesOf text) ≡ Read count → store editWords count (textRows editNames (linesOf text)) lent ≡ readEditsOf text lent
   unfolding readEditsOf settleEdits
   edits-stored count e = rw e

@@ -11,30 +11,30 @@ use borrow.Author.Tests.{eqb-true}
 use lib.Dec.{eqb}
 use lib.ListN.{length, take, drop, length-append, length-drop, take-append-drop}
 use lib.Seq.{length-take-le, take-at, drop-at, drop-drop}
-use Rattle.score.specs.Numbers.{success, refused}
+use Rattle.score.specs.declared.reader.ReadAnswer.the-variants.{Read}
 use Rattle.score.specs.Text.{Line, linesOf, restOf, holdsWords, rowOf, rowsOf}
-use Rattle.score.specs.Reading.{lineNumber, testLines}
+use Rattle.score.specs.Reading.{refusedAt, lineNumber, testLines}
 use Rattle.score.specs.Inner.{lineAt}
 use Rattle.score.proofs.Cases.{le-or-lt}
 use Rattle.score.proofs.FirstLine.{some-line}
 use Rattle.score.proofs.Fields.{fieldBytes}
-use Rattle.score.proofs.Rows.{value, first-tested, none-left, next-line, line-fits, line-passes}
+use Rattle.score.proofs.Values.{value, first-tested, none-left, next-line, line-fits, line-passes}
 
--- ---- success
-pub same-count : (a b : ℕ) → success a ≡ success b → a ≡ b
+-- ---- Read
+pub same-count : (a b : ℕ) → Read a ≡ Read b → a ≡ b
 same-count a b e = cc
 
-pub not-both : (a b n : ℕ) → refused a b ≡ success n → ⊥
+pub not-both : (a b n : ℕ) → refusedAt a b ≡ Read n → ⊥
 not-both a b n e = let z : _≡_ {A = ℕ} 0 1 = cc in omega arith
 
 -- each line counts
-pub counted : (count : ℕ) (columns : List ℕ) (limited : Bool) (lines : List Line) (at n : ℕ) → testLines count columns limited at lines ≡ success n → n ≡ at + length lines
+pub counted : (count : ℕ) (columns : List ℕ) (limited : Bool) (lines : List Line) (at n : ℕ) → testLines count columns limited at lines ≡ Read n → n ≡ at + length lines
 unfolding testLines
 counted count columns limited [] at n e = let q = same-count at n e in omega arith
 counted count columns limited (line ∷ lines) at n e = go (eqb (lineNumber count columns limited line) 0) e (counted count columns limited lines (suc at) n)
   where
-    go : (b : Bool) → cond b (testLines count columns limited (suc at) lines) (refused (lineNumber count columns limited line) at) ≡ success n
-        → (testLines count columns limited (suc at) lines ≡ success n → n ≡ suc at + length lines) → n ≡ at + suc (length lines)
+    go : (b : Bool) → cond b (testLines count columns limited (suc at) lines) (refusedAt (lineNumber count columns limited line) at) ≡ Read n
+        → (testLines count columns limited (suc at) lines ≡ Read n → n ≡ suc at + length lines) → n ≡ at + suc (length lines)
     go true e f = let q = f e in omega arith
     go false e f = absurd (not-both (lineNumber count columns limited line) at n e)
 
@@ -48,12 +48,12 @@ pub record Stored (count : ℕ) (columns text : List ℕ) (next lines : ℕ) (ro
   pub upto : k ≤ lines
   pub place : base ≡ count * k
   pub long : length rows ≡ length rows₀
-  pub tested : testLines count columns false k (linesOf (drop from text)) ≡ success lines
+  pub tested : testLines count columns false k (linesOf (drop from text)) ≡ Read lines
   pub stored : take base rows ++ rowsOf columns (linesOf (drop from text)) ≡ rowsOf columns (linesOf (drop next text))
   pub kept : drop (count * lines) rows ≡ drop (count * lines) rows₀
 
 module _ (count : ℕ) (columns text : List ℕ) (next lines : ℕ) (rows₀ : List ℕ) (enough : count * lines ≤ length rows₀) (some : 0 < count) where
-  pub stores : next ≤ length text → testLines count columns false 0 (linesOf (drop next text)) ≡ success lines → Stored count columns text next lines rows₀ rows₀ next 0 0
+  pub stores : next ≤ length text → testLines count columns false 0 (linesOf (drop next text)) ≡ Read lines → Stored count columns text next lines rows₀ rows₀ next 0 0
   stores i t = record { inside = i; upto = omega arith; place = omega arith; long = refl; tested = t; stored = refl; kept = refl }
 
   module _ (rows : List ℕ) (from base k : ℕ) (s : Stored count columns text next lines rows₀ rows from base k) (h : k < lines) where
@@ -68,7 +68,7 @@ module _ (count : ℕ) (columns text : List ℕ) (next lines : ℕ) (rows₀ : L
     number = go (eqb (lineNumber count columns false (lineAt text from)) 0) refl (sym (first-tested count columns false text from k line-there) ∙ s .tested)
       where
         go : (b : Bool) → eqb (lineNumber count columns false (lineAt text from)) 0 ≡ b
-            → cond b (testLines count columns false (suc k) (restOf (linesOf (drop from text)))) (refused (lineNumber count columns false (lineAt text from)) k) ≡ success lines
+            → cond b (testLines count columns false (suc k) (restOf (linesOf (drop from text)))) (refusedAt (lineNumber count columns false (lineAt text from)) k) ≡ Read lines
             → lineNumber count columns false (lineAt text from) ≡ 0
         go true e q = eqb-true (lineNumber count columns false (lineAt text from)) 0 e
         go false e q = absurd (not-both (lineNumber count columns false (lineAt text from)) k lines q)

@@ -6,6 +6,7 @@ use mathlib.Core.Bool.{Bool, true, false, _&&_, _||_, cond}
 use mathlib.Core.List.{List, [], _∷_, _++_, map}
 use lib.ListN.{length, getD}
 use lib.Dec.{leb, ltb, eqb}
+use Rattle.words.specs.Lists.{same}
 
 -- The bytes of a text of ASCII characters.
 abbrev pub bytes : String → List ℕ
@@ -67,13 +68,6 @@ restOf [] = []
 restOf (line ∷ lines) = lines
 
 -- ---- names
-
--- Two texts are the same bytes.
-unfoldable pub same : List ℕ → List ℕ → Bool
-same [] [] = true
-same [] (b ∷ t) = false
-same (a ∷ s) [] = false
-same (a ∷ s) (b ∷ t) = eqb a b && same s t
 
 -- The column of a name: the number of the first field that is the name, and the number of fields if none is.
 unfoldable pub columnOf : List ℕ → List (List ℕ) → ℕ

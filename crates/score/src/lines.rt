@@ -1,11 +1,11 @@
 // Lines of values: words with one space between, and an LF.
 use crate::header::MOST_NAMES;
-use crate::limits::ROW_WORDS;
 use crate::limits::row_within;
-use crate::numbers::LIMIT;
-use crate::numbers::VALUE;
 use crate::pieces::LF;
 use crate::pieces::SPACE;
+use crate::refusal::LIMIT;
+use crate::refusal::VALUE;
+use crate::rows::ROW_WORDS;
 use crate::word::WORD_DIGITS;
 use crate::word::is_word;
 use crate::word::word_at;
@@ -13,7 +13,8 @@ ghost use mathlib.Core.Path.{_≡_};
 ghost use mathlib.Core.Bool.{true};
 ghost use Prim.Native.Nat.{_≤_, _<_};
 ghost use lib.ListN.{length, take, drop};
-ghost use Rattle.score.specs.Limits.{rowWords, rowWithin};
+ghost use Rattle.score.specs.Rows.{rowWords};
+ghost use Rattle.score.specs.Limits.{rowWithin};
 ghost use Rattle.score.specs.Text.{holdsWords, rowOf};
 ghost use Rattle.score.specs.Reading.{lineNumber};
 ghost use Rattle.score.specs.Inner.{mostNames, startsWord, lineAt, Columns};

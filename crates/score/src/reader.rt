@@ -1,20 +1,22 @@
 // Reading a text of rows: one pass tests it, and only a text that passes is written.
 use crate::header::MOST_NAMES;
 use crate::header::read_names;
-use crate::limits::ROW_WORDS;
 use crate::lines::FIELD;
 use crate::lines::line_number;
 use crate::lines::write_row;
-use crate::numbers::NAMES;
-use crate::numbers::ROWS;
-use crate::numbers::SPACE;
+use crate::refusal::NAMES;
+use crate::refusal::ROWS;
+use crate::refusal::Refusal;
+use crate::refusal::SPACE;
+use crate::rows::MOST_ROWS;
+use crate::rows::ROW_WORDS;
 ghost use mathlib.Core.Path.{_≡_};
 ghost use mathlib.Core.Bool.{true, false};
 ghost use mathlib.Core.List.{_++_};
 ghost use Prim.Native.Nat.{_*_, _≤_};
 ghost use lib.ListN.{length, take, drop};
-ghost use Rattle.score.specs.Limits.{rowWords};
-ghost use Rattle.score.specs.Numbers.{success, resultOf};
+ghost use Rattle.score.specs.declared.reader.ReadAnswer.the-variants.{Read};
+ghost use Rattle.score.specs.Rows.{rowWords};
 ghost use Rattle.score.specs.Text.{linesOf, rowsOf};
 ghost use Rattle.score.specs.Reading.{testLines, store, outcome, readOf, readEditsOf};
 ghost use Rattle.score.specs.Inner.{mostNames, Columns};
@@ -23,12 +25,8 @@ ghost use Rattle.score.specs.Inner.{mostNames, Columns};
 pub enum ReadAnswer {
     // The number of rows.
     Read(usize),
-    // A refusal's number and place.
-    Refused(u32, usize),
+    Refused(Refusal),
 }
-
-// The most rows of a score.
-pub const MOST_ROWS: usize = 4096;
 
 // An edit's words: its row, then a row's.
 pub const EDIT_WORDS: usize = ROW_WORDS + 1;
@@ -44,14 +42,14 @@ fn test_lines(
     requires { ⌜ next ≤ length (now text) ⌝ }
     requires { ⌜ Columns (now columns) count ⌝ }
     requires { ⌜ (limited ≡ true → count ≡ rowWords) ⌝ }
-    ensures { λ r. ⌜ resultOf r ≡ testLines count (take count (now (columns .entry))) limited 0 (linesOf (drop next (now (text .entry)))) ⌝ }
+    ensures { λ r. ⌜ r ≡ testLines count (take count (now (columns .entry))) limited 0 (linesOf (drop next (now (text .entry)))) ⌝ }
 {
     let mut from = next;
     let mut at = 0;
     while from < text.len() {
         let number = line_number(text, from, columns, count, limited);
         if number != 0 {
-            return ReadAnswer::Refused(number, at);
+            return ReadAnswer::Refused(Refusal { number, place: at });
         }
         from += count * FIELD;
         at += 1;
@@ -70,7 +68,7 @@ fn write_rows(
 )
     requires { ⌜ (next ≤ length (now text)) × (count ≤ mostNames) ⌝ }
     requires { ⌜ Columns (now columns) count ⌝ }
-    requires { ⌜ testLines count (take count (now columns)) false 0 (linesOf (drop next (now text))) ≡ success lines ⌝ }
+    requires { ⌜ testLines count (take count (now columns)) false 0 (linesOf (drop next (now text))) ≡ Read lines ⌝ }
     requires { ⌜ count * lines ≤ length (now rows) ⌝ }
     ensures { λ _. ⌜ now (rows .exit) ≡ rowsOf (take count (now (columns .entry))) (linesOf (drop next (now (text .entry)))) ++ drop (count * lines) (now (rows .entry)) ⌝ }
 {
@@ -97,11 +95,14 @@ fn store_rows(
 ) -> ReadAnswer
     requires { ⌜ (next ≤ length (now text)) × (count ≤ mostNames) ⌝ }
     requires { ⌜ Columns (now columns) count ⌝ }
-    requires { ⌜ testLines count (take count (now columns)) false 0 (linesOf (drop next (now text))) ≡ success lines ⌝ }
+    requires { ⌜ testLines count (take count (now columns)) false 0 (linesOf (drop next (now text))) ≡ Read lines ⌝ }
     ensures { λ r. ⌜ outcome r (now (rows .exit)) ≡ store count lines (rowsOf (take count (now (columns .entry))) (linesOf (drop next (now (text .entry))))) (now (rows .entry)) ⌝ }
 {
     if rows.len() / count < lines {
-        return ReadAnswer::Refused(SPACE, 0);
+        return ReadAnswer::Refused(Refusal {
+            number: SPACE,
+            place: 0,
+        });
     }
     write_rows(text, next, columns, count, lines, rows);
     ReadAnswer::Read(lines)
@@ -114,18 +115,27 @@ pub fn read(text: &[u8], rows: &mut [u32]) -> ReadAnswer
     let header = read_names(text, b"note timbre morph harmonics restart");
     let next = header.next;
     if next == 0 {
-        return ReadAnswer::Refused(NAMES, 0);
+        return ReadAnswer::Refused(Refusal {
+            number: NAMES,
+            place: 0,
+        });
     }
     let columns = header.columns;
     let answer = test_lines(text, next, &columns, ROW_WORDS, true);
     match answer {
-        ReadAnswer::Refused(number, place) => ReadAnswer::Refused(number, place),
+        ReadAnswer::Refused(r) => ReadAnswer::Refused(r),
         ReadAnswer::Read(lines) => {
             if lines == 0 {
-                return ReadAnswer::Refused(ROWS, 0);
+                return ReadAnswer::Refused(Refusal {
+                    number: ROWS,
+                    place: 0,
+                });
             }
             if lines > MOST_ROWS {
-                return ReadAnswer::Refused(ROWS, 0);
+                return ReadAnswer::Refused(Refusal {
+                    number: ROWS,
+                    place: 0,
+                });
             }
             store_rows(text, next, &columns, ROW_WORDS, lines, rows)
         }
@@ -139,12 +149,15 @@ pub fn read_edits(text: &[u8], edits: &mut [u32]) -> ReadAnswer
     let header = read_names(text, b"row note timbre morph harmonics restart");
     let next = header.next;
     if next == 0 {
-        return ReadAnswer::Refused(NAMES, 0);
+        return ReadAnswer::Refused(Refusal {
+            number: NAMES,
+            place: 0,
+        });
     }
     let columns = header.columns;
     let answer = test_lines(text, next, &columns, EDIT_WORDS, false);
     match answer {
-        ReadAnswer::Refused(number, place) => ReadAnswer::Refused(number, place),
+        ReadAnswer::Refused(r) => ReadAnswer::Refused(r),
         ReadAnswer::Read(lines) => store_rows(text, next, &columns, EDIT_WORDS, lines, edits),
     }
 }

@@ -7,7 +7,7 @@ use Rattle.score.specs.Limits.{rowWithin}
 use Rattle.score.specs.Numbers.{limitNumber}
 use Rattle.score.specs.Text.{holdsWords, rowOf}
 use Rattle.score.specs.Inner.{lineAt, Columns}
-use Rattle.score.proofs.Rows.{no-value, unlimited, number-by-limit}
+use Rattle.score.proofs.Values.{no-value, unlimited, number-by-limit}
 use borrow.Author.Needs.{needs}
 use Rattle.score.proofs.lines.line_number.Statement.{statement}
 use Rattle.score.proofs.lines.line_number.Tie as tie

@@ -5,7 +5,7 @@ use mathlib.Core.Path.{refl, _∙_}
 use borrow.Author.Needs.{needs}
 use lib.ListN.{length, length-set}
 use Rattle.score.specs.Inner.{lineAt}
-use Rattle.score.proofs.Rows.{Written, writes, writes-on, written, column-word, column-fits, column-value}
+use Rattle.score.proofs.Values.{Written, writes, writes-on, written, column-word, column-fits, column-value}
 use Rattle.score.proofs.lines.write_row.Statement.{statement}
 use Rattle.score.proofs.lines.write_row.Tie as tie
 

@@ -5,8 +5,8 @@ use native.Mathlib.Omega.{arith}
 use borrow.Author.Needs.{needs}
 use lib.Dec.{lit<, lit≤}
 use lib.ListN.{length}
-use Rattle.score.specs.Limits.{rowWords}
-use Rattle.score.specs.Numbers.{resultOf, namesNumber}
+use Rattle.score.specs.Rows.{rowWords}
+use Rattle.score.specs.Numbers.{refusal, namesNumber}
 use Rattle.score.specs.Text.{split}
 use Rattle.score.specs.Reading.{scoreNames, store}
 use Rattle.score.proofs.Settling.{positive, not-named, named, rows-named, columns-named, passes-free, score-names, five-names, score-refused, no-rows, many-rows, score-stored}
@@ -26,7 +26,7 @@ returns c =
     let a = c .before .before .before .before .before .args in
     let d = c .before .read-names .result in
     let h = score-names (a .text .now) d (c .before .read-names .ensures) in
-    score-refused (a .text .now) (a .rows .now) namesNumber 0 (not-named scoreNames (a .text .now) d h true (c .if1 .taken))
+    score-refused (a .text .now) (a .rows .now) (refusal namesNumber 0) (not-named scoreNames (a .text .now) d h true (c .if1 .taken))
 
 test-lines-requires : tie.Need-test-lines-requires
 test-lines-requires c κs =
@@ -46,14 +46,14 @@ returns-2 c =
     let a = c .before .before .before .before .before .before .before .before .before .before .before .before .args in
     let d = c .before .before .before .before .before .before .before .before .read-names .result in
     let h = score-names (a .text .now) d (c .before .before .before .before .before .before .before .before .read-names .ensures) in
-    no-rows (a .text .now) (a .rows .now) _ (named scoreNames (a .text .now) d h rowWords five-names (positive _ (c .before .before .before .before .before .before .before .if1 .left)) true ∙ (sym (c .before .before .before .before .test-lines .ensures) ∙ ap resultOf (c .before .before .answer2 .given .1))) (c .if2 .taken)
+    no-rows (a .text .now) (a .rows .now) _ (named scoreNames (a .text .now) d h rowWords five-names (positive _ (c .before .before .before .before .before .before .before .if1 .left)) true ∙ (sym (c .before .before .before .before .test-lines .ensures) ∙ c .before .before .answer2 .given .1)) (c .if2 .taken)
 
 returns-3 : tie.Need-returns-3
 returns-3 c =
     let a = c .before .before .before .before .before .before .before .before .before .before .before .before .before .args in
     let d = c .before .before .before .before .before .before .before .before .before .read-names .result in
     let h = score-names (a .text .now) d (c .before .before .before .before .before .before .before .before .before .read-names .ensures) in
-    many-rows (a .text .now) (a .rows .now) _ (named scoreNames (a .text .now) d h rowWords five-names (positive _ (c .before .before .before .before .before .before .before .before .if1 .left)) true ∙ (sym (c .before .before .before .before .before .test-lines .ensures) ∙ ap resultOf (c .before .before .before .answer2 .given .1))) (c .if3 .taken)
+    many-rows (a .text .now) (a .rows .now) _ (named scoreNames (a .text .now) d h rowWords five-names (positive _ (c .before .before .before .before .before .before .before .before .if1 .left)) true ∙ (sym (c .before .before .before .before .before .test-lines .ensures) ∙ c .before .before .before .answer2 .given .1)) (c .if3 .taken)
 
 store-rows-requires : tie.Need-store-rows-requires
 store-rows-requires c κs =
@@ -61,14 +61,14 @@ store-rows-requires c κs =
     let d = c .before .before .before .before .before .before .before .before .before .before .before .read-names .result in
     let h = score-names (a .text .now) d (c .before .before .before .before .before .before .before .before .before .before .before .read-names .ensures) in
     let p = positive _ (c .before .before .before .before .before .before .before .before .before .before .if1 .left) in
-    ((h .inside, lit≤ tt), (columns-named scoreNames (a .text .now) d h rowWords five-names p (lit< tt) (let e : length (d .columns) ≡ 6 = search needs in omega arith), passes-free _ _ _ _ _ (sym (c .before .before .before .before .before .before .before .test-lines .ensures) ∙ ap resultOf (c .before .before .before .before .before .answer2 .given .1))))
+    ((h .inside, lit≤ tt), (columns-named scoreNames (a .text .now) d h rowWords five-names p (lit< tt) (let e : length (d .columns) ≡ 6 = search needs in omega arith), passes-free _ _ _ _ _ (sym (c .before .before .before .before .before .before .before .test-lines .ensures) ∙ c .before .before .before .before .before .answer2 .given .1)))
 
 returns-4 : tie.Need-returns-4
 returns-4 c =
     let a = c .before .before .before .before .before .before .before .before .before .before .before .args in
     let d = c .before .before .before .before .before .before .before .read-names .result in
     let h = score-names (a .text .now) d (c .before .before .before .before .before .before .before .read-names .ensures) in
-    score-refused (a .text .now) (a .rows .now) _ _ (named scoreNames (a .text .now) d h rowWords five-names (positive _ (c .before .before .before .before .before .before .if1 .left)) true ∙ sym (c .before .before .before .test-lines .ensures) ∙ ap resultOf (c .before .answer .given .1))
+    score-refused (a .text .now) (a .rows .now) _ (named scoreNames (a .text .now) d h rowWords five-names (positive _ (c .before .before .before .before .before .before .if1 .left)) true ∙ sym (c .before .before .before .test-lines .ensures) ∙ c .before .answer .given .1)
 
 same-length : tie.Need-same-length
 same-length c = search needs
@@ -81,7 +81,7 @@ returns-5 c =
     let p = positive _ (c .before .before .before .before .before .before .before .before .before .before .before .before .before .if1 .left) in
     c .before .before .store-rows .ensures
     ∙ ap (λ rows. store rowWords (c .before .before .before .before .before .before .before .before .answer2 .given .0 .0) rows (a .rows .now)) (sym (rows-named scoreNames (a .text .now) d h rowWords five-names p))
-    ∙ score-stored (a .text .now) (a .rows .now) _ (named scoreNames (a .text .now) d h rowWords five-names p true ∙ (sym (c .before .before .before .before .before .before .before .before .before .before .test-lines .ensures) ∙ ap resultOf (c .before .before .before .before .before .before .before .before .answer2 .given .1))) (c .before .before .before .before .before .before .if2 .left) (c .before .before .before .before .before .if3 .left)
+    ∙ score-stored (a .text .now) (a .rows .now) _ (named scoreNames (a .text .now) d h rowWords five-names p true ∙ (sym (c .before .before .before .before .before .before .before .before .before .before .test-lines .ensures) ∙ c .before .before .before .before .before .before .before .before .answer2 .given .1)) (c .before .before .before .before .before .before .if2 .left) (c .before .before .before .before .before .if3 .left)
 
 pub read-spec : {M : Type 1} → statement M
 read-spec =

@@ -5,7 +5,7 @@ use native.Mathlib.Omega.{arith}
 use borrow.Author.Needs.{needs}
 use lib.Dec.{lit<, lit≤}
 use lib.ListN.{length}
-use Rattle.score.specs.Numbers.{resultOf, namesNumber}
+use Rattle.score.specs.Numbers.{refusal, namesNumber}
 use Rattle.score.specs.Text.{split}
 use Rattle.score.specs.Reading.{store, editNames, editWords}
 use Rattle.score.proofs.Settling.{positive, not-named, named, rows-named, columns-named, edit-names, six-names, edits-refused, edits-stored}
@@ -25,7 +25,7 @@ returns c =
     let a = c .before .before .before .before .before .args in
     let d = c .before .read-names .result in
     let h = edit-names (a .text .now) d (c .before .read-names .ensures) in
-    edits-refused (a .text .now) (a .edits .now) namesNumber 0 (not-named editNames (a .text .now) d h false (c .if1 .taken))
+    edits-refused (a .text .now) (a .edits .now) (refusal namesNumber 0) (not-named editNames (a .text .now) d h false (c .if1 .taken))
 
 test-lines-requires : tie.Need-test-lines-requires
 test-lines-requires c κs =
@@ -46,14 +46,14 @@ store-rows-requires c κs =
     let d = c .before .before .before .before .before .before .before .before .before .read-names .result in
     let h = edit-names (a .text .now) d (c .before .before .before .before .before .before .before .before .before .read-names .ensures) in
     let p = positive _ (c .before .before .before .before .before .before .before .before .if1 .left) in
-    ((h .inside, lit≤ tt), (columns-named editNames (a .text .now) d h editWords six-names p (lit< tt) (let e : length (d .columns) ≡ 6 = search needs in omega arith), (sym (c .before .before .before .before .before .test-lines .ensures) ∙ ap resultOf (c .before .before .before .answer2 .given .1))))
+    ((h .inside, lit≤ tt), (columns-named editNames (a .text .now) d h editWords six-names p (lit< tt) (let e : length (d .columns) ≡ 6 = search needs in omega arith), (sym (c .before .before .before .before .before .test-lines .ensures) ∙ c .before .before .before .answer2 .given .1)))
 
 returns-2 : tie.Need-returns-2
 returns-2 c =
     let a = c .before .before .before .before .before .before .before .before .before .before .before .args in
     let d = c .before .before .before .before .before .before .before .read-names .result in
     let h = edit-names (a .text .now) d (c .before .before .before .before .before .before .before .read-names .ensures) in
-    edits-refused (a .text .now) (a .edits .now) _ _ (named editNames (a .text .now) d h editWords six-names (positive _ (c .before .before .before .before .before .before .if1 .left)) false ∙ sym (c .before .before .before .test-lines .ensures) ∙ ap resultOf (c .before .answer .given .1))
+    edits-refused (a .text .now) (a .edits .now) _ (named editNames (a .text .now) d h editWords six-names (positive _ (c .before .before .before .before .before .before .if1 .left)) false ∙ sym (c .before .before .before .test-lines .ensures) ∙ c .before .answer .given .1)
 
 same-length : tie.Need-same-length
 same-length c = search needs
@@ -66,7 +66,7 @@ returns-3 c =
     let p = positive _ (c .before .before .before .before .before .before .before .before .before .before .before .if1 .left) in
     c .before .before .store-rows .ensures
     ∙ ap (λ rows. store editWords (c .before .before .before .before .before .before .answer2 .given .0 .0) rows (a .edits .now)) (sym (rows-named editNames (a .text .now) d h editWords six-names p))
-    ∙ edits-stored (a .text .now) (a .edits .now) _ (named editNames (a .text .now) d h editWords six-names p false ∙ (sym (c .before .before .before .before .before .before .before .before .test-lines .ensures) ∙ ap resultOf (c .before .before .before .before .before .before .answer2 .given .1)))
+    ∙ edits-stored (a .text .now) (a .edits .now) _ (named editNames (a .text .now) d h editWords six-names p false ∙ (sym (c .before .before .before .before .before .before .before .before .test-lines .ensures) ∙ c .before .before .before .before .before .before .answer2 .given .1))
 
 pub read-edits-spec : {M : Type 1} → statement M
 read-edits-spec =

@@ -4,8 +4,8 @@ use Prim.Native.Nat.{_-_}
 use native.Mathlib.Omega.{arith}
 use borrow.Author.Needs.{needs}
 use lib.ListN.{length, take}
-use Rattle.score.specs.Numbers.{refused}
-use Rattle.score.proofs.Rows.{Tested, none-left, line-refused, line-fits, line-passes}
+use Rattle.score.specs.Reading.{refusedAt}
+use Rattle.score.proofs.Values.{Tested, none-left, line-refused, line-fits, line-passes}
 use Rattle.score.proofs.reader.test_lines.Statement.{statement}
 use Rattle.score.proofs.reader.test_lines.Tie as tie
 
@@ -26,7 +26,7 @@ returns c =
     let a = c .before .before .before .before .before .args in
     let p = c .before .before .before .before .before .pre in
     let l = c .before .before .before .loop in
-    sym (l .inv .left ∙ line-refused (a .count) (take (a .count) (a .columns .now)) (a .limited) (a .text .now) (l .from) (l .at) (c .before .before .loop-test .taken) (λ e. c .if1 .taken (c .before .line-number .ensures ∙ e)) ∙ ap (λ n. refused n (l .at)) (sym (c .before .line-number .ensures)))
+    sym (l .inv .left ∙ line-refused (a .count) (take (a .count) (a .columns .now)) (a .limited) (a .text .now) (l .from) (l .at) (c .before .before .loop-test .taken) (λ e. c .if1 .taken (c .before .line-number .ensures ∙ e)) ∙ ap (λ n. refusedAt n (l .at)) (sym (c .before .line-number .ensures)))
 
 mul-from : tie.Need-mul-from Inv-loop μ-loop
 mul-from c =

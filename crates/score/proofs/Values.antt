@@ -11,8 +11,9 @@ use lib.ListN.{length, getD, take, drop, set, length-set, length-drop, drop-of-l
 use lib.Seq.{drop-cons, drop-drop, getD-take, length-take-le, take-suc-set, append-snoc, take-all}
 use Rattle.score.specs.Text.{Line, contents, linesOf, firstOf, restOf, fieldsOf, wordDigits, isWord, wordOf, eachBelow, holdsWords, rowOf}
 use Rattle.score.specs.Limits.{rowWithin}
-use Rattle.score.specs.Numbers.{success, refused, limitNumber, valueNumber}
-use Rattle.score.specs.Reading.{lineNumber, testLines}
+use Rattle.score.specs.declared.reader.ReadAnswer.the-variants.{Read}
+use Rattle.score.specs.Numbers.{limitNumber, valueNumber}
+use Rattle.score.specs.Reading.{refusedAt, lineNumber, testLines}
 use Rattle.score.specs.Inner.{lineAt, Columns}
 use Rattle.score.proofs.Cases.{both}
 use Rattle.score.proofs.FirstLine.{some-line, no-line}
@@ -110,16 +111,16 @@ pub record Tested (count : ℕ) (columns : List ℕ) (limited : Bool) (text : Li
 
 module _ (count : ℕ) (columns : List ℕ) (limited : Bool) (text : List ℕ) (from at : ℕ) where
   pub first-tested : from < length text → testLines count columns limited at (linesOf (drop from text))
-      ≡ cond (eqb (lineNumber count columns limited (lineAt text from)) 0) (testLines count columns limited (suc at) (restOf (linesOf (drop from text)))) (refused (lineNumber count columns limited (lineAt text from)) at)
+      ≡ cond (eqb (lineNumber count columns limited (lineAt text from)) 0) (testLines count columns limited (suc at) (restOf (linesOf (drop from text)))) (refusedAt (lineNumber count columns limited (lineAt text from)) at)
   unfolding testLines
   first-tested h = ap (testLines count columns limited at) (some-line (drop from text) (omega (arith, length-drop from text)))
 
-  pub none-left : length text ≤ from → testLines count columns limited at (linesOf (drop from text)) ≡ success at
+  pub none-left : length text ≤ from → testLines count columns limited at (linesOf (drop from text)) ≡ Read at
   unfolding testLines
   none-left h = rw (drop-of-length-le text h, no-line)
 
   pub line-refused : from < length text → (lineNumber count columns limited (lineAt text from) ≡ 0 → ⊥)
-      → testLines count columns limited at (linesOf (drop from text)) ≡ refused (lineNumber count columns limited (lineAt text from)) at
+      → testLines count columns limited at (linesOf (drop from text)) ≡ refusedAt (lineNumber count columns limited (lineAt text from)) at
   line-refused h n = first-tested h ∙ rw (ne-eqb (lineNumber count columns limited (lineAt text from)) 0 n)
 
   module _ (some : 0 < count) (n : lineNumber count columns limited (lineAt text from) ≡ 0) where
