@@ -50,9 +50,12 @@ abbrev pub keptAt : List ℕ → ℕ → List ℕ
 keptAt kept i = part keptCount kept i
 
 -- The words of the state before row i: those kept after the row before it, and at row 0 those of the fresh state.
-unfoldable pub wordsBefore : Setup → List ℕ → ℕ → List ℕ
-wordsBefore s kept zero = keptWords (freshStart s)
-wordsBefore s kept (suc i) = keptAt kept i
+unfoldable pub beforeRow : State → List ℕ → ℕ → List ℕ
+beforeRow fresh kept zero = keptWords fresh
+beforeRow fresh kept (suc i) = keptAt kept i
+
+abbrev pub wordsBefore : Setup → List ℕ → ℕ → List ℕ
+wordsBefore s kept i = beforeRow (freshStart s) kept i
 
 -- The float of a row's word.
 abbrev pub floatAt : List ℕ → ℕ → Float
@@ -69,9 +72,9 @@ parametersOf rate row =
       «a0_normalized» = a0Of rate;
     }
 
--- The state that a row begins with, where st is the state before it: "each row with restart 1, begins with `init`".
-unfoldable pub startOf : Setup → List ℕ → State → State
-startOf s row st = cond (restarts row) (freshStart s) st
+-- The state that a row begins with, where st is the state before it: "each row with restart 1, begins with `init`", which leaves the fresh one.
+unfoldable pub startOf : State → List ℕ → State → State
+startOf fresh row st = cond (restarts row) fresh st
 
 -- "the row's out and aux words, its `held`, and its 13 kept words"
 pub record Row : Type 0 where
@@ -81,7 +84,7 @@ pub record Row : Type 0 where
 -- "The row's block is then made from that state and the row by the definitions of demand 2."
 unfoldable pub rowFrom : Setup → List ℕ → State → Row
 rowFrom s row st =
-    let b = rendered (s .bank) (s .map) (s .frames) (parametersOf (s .rate) row) (startOf s row st) in
+    let b = rendered (s .bank) (s .map) (s .frames) (parametersOf (s .rate) row) (startOf (freshStart s) row st) in
     record { words = lent (b .out) (b .aux) (keptWords (b .state)); holds = b .holds }
 
 -- A row made from the 13 words of the state before it: "the next row starts from the kept words".
@@ -112,13 +115,16 @@ pub record Run : Type 0 where
   pub left : Take
   pub report : Report
 
+abbrev pub reported : Report → Take → Run
+reported p t = record { left = t; report = p }
+
 -- Nothing more is rendered.
 abbrev pub idle : Take → Run
-idle t = record { left = t; report = nothing }
+idle t = reported nothing t
 
 -- A run, after rows that were reported.
 abbrev pub after : Report → Run → Run
-after p r = record { left = r .left; report = both p (r .report) }
+after p r = reported (both p (r .report)) (r .left)
 
 -- Whether a run stops before row j of n, told the words kept after row j - 1 as they stood and as they now are: "up to the first row j that
 -- restarts or for which the 13 words kept after j - 1 are the same as before the edit", or to the end.

@@ -4,7 +4,7 @@ use mathlib.Core.Path.{_≡_, refl, sym, ap, _∙_, subst}
 use mathlib.Core.List.{List, [], _∷_}
 use mathlib.Core.Bool.{Bool, true, false, cond, _||_, true≢false}
 use mathlib.Core.Logic.{_⊎_, inl, inr}
-use Prim.Native.Nat.{ℕ, zero, suc, _+_, _-_, _*_, _≤_, _<_}
+use Prim.Native.Nat.{ℕ, zero, suc, _+_, _-_, _*_, _/_, _≤_, _<_}
 use native.Mathlib.Omega.{arith}
 use native.Mathlib.Nat.{le-refl}
 use borrow.Author.Tests.{eq-eqb, ne-eqb, eqb-true, eqb-false, ltb-true, ltb-false}
@@ -19,6 +19,7 @@ use Rattle.score.specs.Limits.{rowWithin, limitRefusal}
 use Rattle.score.specs.declared.refusal.Refusal.{Refusal}
 use Rattle.rows.specs.declared.Report.{Report}
 use Rattle.rows.specs.Rows.{Setup, Take, wordsBefore, rowIn, Run, idle, stopsOf, runOf}
+use Rattle.take.specs.declared.Answer.the-variants.{Done}
 use Rattle.take.specs.Take.{rowCount, lentNumber, scoreRefusal, editRefusal, resultOf, Outcome, refusedBy, ran, editOf}
 use Rattle.take.specs.Retakes.{Edit, withRow, edited, Stop, First, Elsewhere, Writes, Right, wordsAt, madeFrom, holdsOf, Retaken, Retakes}
 use Rattle.take.proofs.Refusals.{Usable, usable, refusal-none, score-none}
@@ -176,3 +177,25 @@ retakes s rows t e =
           (ap (λ (o : Outcome). resultOf (o .answer)) q, record { score = ap (λ (o : Outcome). o .score) q; left = ap (λ (o : Outcome). o .left) q });
       changed = λ z w. edit-retaken s rows t e z w;
     }
+
+-- ---- The three cases of any edit.
+
+module _ (s : Setup) (rows : List ℕ) (t : Take) (e : Edit) (P : Outcome → Type 0) where
+  -- What is true of a refused edit, of one that changes no word, and of one that does is true of every edit.
+  pub by-cases : ((editRefusal s rows (e .row) (e .words) t .number ≡ 0 → ⊥) → P (edited s rows t e))
+      → (editRefusal s rows (e .row) (e .words) t .number ≡ 0 → rowAt rows (e .row) ≡ e .words → P (edited s rows t e))
+      → (editRefusal s rows (e .row) (e .words) t .number ≡ 0 → (rowAt rows (e .row) ≡ e .words → ⊥) → P (edited s rows t e)) → P (edited s rows t e)
+  by-cases f g h = go (eqb (r s rows t e .number) 0) (same (rowAt rows (e .row)) (e .words)) refl refl
+    where
+      go : (x y : Bool) → eqb (r s rows t e .number) 0 ≡ x → same (rowAt rows (e .row)) (e .words) ≡ y → P (edited s rows t e)
+      go false y a b = f (eqb-false (r s rows t e .number) 0 a)
+      go true true a b = g (eqb-true (r s rows t e .number) 0 a) (same-eq _ _ b)
+      go true false a b = h (eqb-true (r s rows t e .number) 0 a) (λ w. true≢false (sym (rw w (same-refl (e .words))) ∙ b))
+
+-- No edit changes the number of rows.
+pub edit-count : (s : Setup) (rows : List ℕ) (t : Take) (e : Edit) → rowCount (edited s rows t e .score) ≡ rowCount rows
+edit-count s rows t e =
+    by-cases s rows t e (λ (o : Outcome). rowCount (o .score) ≡ rowCount rows)
+    (λ h. ap (λ (o : Outcome). rowCount (o .score)) (edit-refused s rows t e h))
+    (λ z w. ap (λ (o : Outcome). rowCount (o .score)) (edit-unchanged s rows t e z w))
+    (λ z w. ap (λ (o : Outcome). rowCount (o .score)) (edit-run s rows t e z w) ∙ ap (λ (l : ℕ). l / rowWords) (rows-long s rows t e z w))

@@ -11,7 +11,7 @@ use Rattle.voice.specs.declared.State.{State}
 use Rattle.voice.specs.Voice.{keptCount, voiceOf, stateOf}
 use Rattle.voice.proofs.Laws.{fresh-back}
 use Rattle.score.specs.Rows.{rowAt}
-use Rattle.rows.specs.Rows.{Setup, Take, lent, freshStart, keptAt, wordsBefore, Row, rowFrom, rowBy, rowIn}
+use Rattle.rows.specs.Rows.{Setup, Take, lent, freshStart, keptAt, beforeRow, wordsBefore, Row, rowFrom, rowBy, rowIn}
 use Rattle.take.specs.Retakes.{freshFrom, fresh, joined, takeOf, noRow, beforeIn, wordsAt, madeFrom}
 use Rattle.take.proofs.Runs.{Made}
 
@@ -23,12 +23,12 @@ module _ (s : Setup) (rows : List ℕ) where
 
   -- Row 0 starts from the fresh state, which comes back from its words.
   first-row : (kept : List ℕ) → rowFrom s (rowAt rows 0) (freshStart s) ≡ rowIn s rows kept 0
-  unfolding rowBy wordsBefore
+  unfolding rowBy beforeRow
   first-row kept = ap (λ (st : State). rowFrom s (rowAt rows 0) st) (sym (fresh-back (voiceOf (s .instrument)) (s .rate)))
 
   -- A row behind another starts from the words that that one keeps.
   later-row : (kept : List ℕ) (k : ℕ) → rowFrom s (rowAt rows (k + 1)) (stateOf (voiceOf (s .instrument)) (keptAt kept k)) ≡ rowIn s rows kept (k + 1)
-  unfolding rowBy wordsBefore
+  unfolding rowBy beforeRow
   later-row kept k = let q : k + 1 ≡ suc k = omega arith in rw q refl
 
   -- Row k + d, where row k starts alike and the rows between keep what they are made to keep.
@@ -60,7 +60,7 @@ module _ (s : Setup) (rows : List ℕ) where
 
       -- The words before a row are those before it in the fresh rendering.
       pub before-fresh : (i : ℕ) → i ≤ n → wordsBefore s (t .kept) i ≡ beforeIn s (fresh s n rows) i
-      unfolding wordsBefore
+      unfolding beforeRow
       before-fresh zero h = refl
       before-fresh (suc i) h = ap (λ (w : Take). w .kept) (made-fresh i (omega arith))
 

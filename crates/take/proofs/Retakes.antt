@@ -4,7 +4,7 @@ use mathlib.Core.Path.{_≡_, refl, sym, ap, _∙_, subst}
 use mathlib.Core.List.{List, [], _∷_}
 use mathlib.Core.Bool.{Bool, true, false, cond, true≢false}
 use mathlib.Core.Logic.{_⊎_, inl, inr}
-use Prim.Native.Nat.{ℕ, zero, suc, _+_, _-_, _*_, _≤_, _<_}
+use Prim.Native.Nat.{ℕ, zero, suc, _+_, _-_, _*_, _/_, _≤_, _<_}
 use native.Mathlib.Omega.{arith}
 use native.Mathlib.Nat.{eq-or-lt-of-le}
 use borrow.Author.Tests.{eq-eqb, ne-eqb, eqb-true, eqb-false, ltb-true, ltb-false}
@@ -20,13 +20,14 @@ use Rattle.score.specs.Rows.{rowWords, wordFor, restart, rowAt, restarts}
 use Rattle.score.specs.Limits.{limitRefusal}
 use Rattle.rows.specs.declared.Report.{Report}
 use Rattle.rows.specs.Rows.{Setup, Take, wordsBefore, Row, startOf, rowFrom, rowBy, rowIn, Run, runOf}
+use Rattle.take.specs.declared.Answer.the-variants.{Done}
 use Rattle.take.specs.Take.{rowCount, lentNumber, scoreRefusal, refusalOf, renderRefusal, editRefusal, resultOf, Outcome, refusedBy, ran, renderOf}
 use Rattle.take.specs.Retakes.{fresh, takeOf, holdsOf, rowsFrom, beforeIn, Edit, withRow, scoreOne, scoreAfter, edited, after, Stop, First, Right, wordsAt, madeFrom, Retaken, FreshRetaken, EachRight, Accepted, Demand3}
 use Rattle.take.proofs.Refusals.{usable, refusal-none}
 use Rattle.take.proofs.Takes.{Roomy, SameLengths, words-elsewhere}
 use Rattle.take.proofs.Runs.{Made, made-still, before-same, Ran, run-ran}
 use Rattle.take.proofs.FreshRows.{fresh-long, before-fresh, rows-fresh, Sized, all-fresh}
-use Rattle.take.proofs.Editing.{edit-refused, edit-lent, edit-score, edit-unchanged, edit-run, edit-ran, rows-long, score-elsewhere, retakes}
+use Rattle.take.proofs.Editing.{edit-refused, edit-lent, edit-score, edit-unchanged, edit-run, edit-ran, rows-long, score-elsewhere, by-cases, edit-count, retakes}
 
 -- ---- Laws that the steps cite.
 
@@ -34,7 +35,7 @@ use Rattle.take.proofs.Editing.{edit-refused, edit-lent, edit-score, ed
 put-same : (l x : List ℕ) (a n : ℕ) → length x ≡ n → take n (drop a l) ≡ x → put l a x ≡ l
 put-same l x a n e w = rw (e, sym w, take-append-drop n (drop a l)) (take-append-drop a l)
 
-lt-or-le : (i j : ℕ) → (i < j) ⊎ (j ≤ i)
+pub lt-or-le : (i j : ℕ) → (i < j) ⊎ (j ≤ i)
 lt-or-le i j = go (ltb i j) (ltb-true i j) (ltb-false i j)
   where
     go : (b : Bool) → (b ≡ true → i < j) → (b ≡ false → j ≤ i) → (i < j) ⊎ (j ≤ i)
@@ -90,22 +91,22 @@ module _ (s : Setup) (rows : List ℕ) (t : Take) (e : renderRefusal s rows t .n
   abbrev n : ℕ
   n = rowCount rows
 
-  abbrev all : Run
+  abbrev pub all : Run
   all = runOf s rows n n 0 n t
 
   lent-none : lentNumber s rows t ≡ 0
   unfolding renderRefusal
   lent-none = refusal-none (lentNumber s rows t) (limitRefusal n rows) e .0
 
-  render-is : renderOf s rows t ≡ ran rows all
+  pub render-is : renderOf s rows t ≡ ran rows all
   unfolding renderOf
   render-is = rw (eq-eqb (renderRefusal s rows t .number) 0 e)
 
-  render-ran : Ran s rows n 0 n t all
+  pub render-ran : Ran s rows n 0 n t all
   render-ran =
       let u = usable s rows t lent-none in
       let f = u .fit in
-      run-ran s rows n n 0 n t (u .some) (omega arith) (omega arith)
+      run-ran s rows n n 0 n t (f .rows-some) (omega arith) (omega arith)
       (record {
         rows-room = omega (arith, f .rows-long);
         out-room = omega (arith, f .out-long);
@@ -113,7 +114,7 @@ module _ (s : Setup) (rows : List ℕ) (t : Take) (e : renderRefusal s rows t .n
         kept-room = omega (arith, f .kept-long);
       })
 
-  rendered-rows : all .report .rows ≡ n
+  pub rendered-rows : all .report .rows ≡ n
   rendered-rows = let d = render-ran in omega (arith, d .least, d .most)
 
   rendered-stands : Stands s rows (all .left)
@@ -139,7 +140,6 @@ module _ (s : Setup) (rows : List ℕ) (t : Take) (e : renderRefusal s rows t .n
 record Step (s : Setup) (rows : List ℕ) (t : Take) (e : Edit) (o : Outcome) : Type 0 where
   is-right : Right s rows t e o (FreshRetaken s rows t e o)
   score : o .score ≡ scoreOne rows e
-  count : rowCount (o .score) ≡ rowCount rows
   stands : Stands s (o .score) (o .left)
 
 module _ (s : Setup) (rows : List ℕ) (t : Take) (e : Edit) (f : Stands s rows t) where
@@ -155,7 +155,7 @@ module _ (s : Setup) (rows : List ℕ) (t : Take) (e : Edit) (f : Stands s rows 
   score-number = rw (eq-eqb (lentNumber s rows t) 0 (f .lent-right))
 
   untouched : o .score ≡ rows → o .left ≡ t → o .score ≡ scoreOne rows e → Right s rows t e o (FreshRetaken s rows t e o) → Step s rows t e o
-  untouched a b c x = record { is-right = x; score = c; count = ap rowCount a; stands = rw (a, b) f }
+  untouched a b c x = record { is-right = x; score = c; stands = rw (a, b) f }
 
   step-refused : (r .number ≡ 0 → ⊥) → Step s rows t e o
   unfolding scoreOne
@@ -215,7 +215,7 @@ module _ (s : Setup) (rows : List ℕ) (t : Take) (e : Edit) (f : Stands s rows 
           (ap (λ (b : List ℕ). rowBy s (rowAt rows' i) b) (before-same s rows' t u i (λ j q. same-words j (inr (omega arith)))))
       late i h (inl q) = still i h (inr (omega (arith, d .first .above))) (same-words i (inr (omega arith))) (subst Same q (by (d .first .stops)))
         where
-          abbrev Same : ℕ → Type 0
+          Same : ℕ → Type 0
           Same j = rowBy s (rowAt rows' j) (wordsBefore s (u .kept) j) ≡ rowBy s (rowAt rows' j) (wordsBefore s (t .kept) j)
 
           by : Stop (rowCount rows) rows' (wordsBefore s (t .kept)) (wordsBefore s (u .kept)) (d .stop) → Same (d .stop)
@@ -251,21 +251,16 @@ module _ (s : Setup) (rows : List ℕ) (t : Take) (e : Edit) (f : Stands s rows 
       step-changed : Step s rows t e o
       step-changed =
           let c : o .score ≡ rows' = d .writes .score in
-          let v = same-lent s rows rows' t u long (rw (sym (edit-run s rows t e z w)) (edit-ran s rows t e z w .lengths)) in
+          let same = subst (λ (x : Outcome). SameLengths t (x .left)) (sym (edit-run s rows t e z w)) (edit-ran s rows t e z w .lengths) in
+          let v = same-lent s rows rows' t u long same in
           record {
             is-right = record { refuses = λ h. absurd (h z); unchanged = λ _ x. absurd (w x); changed = λ _ _. retaken };
             score = c ∙ sym score-taken;
-            count = ap rowCount c ∙ count;
             stands = rw c (record { lent-right = v ∙ f .lent-right; made = λ i h. made i (omega (arith, count)) });
           }
 
   step : Step s rows t e o
-  step = go (eqb (r .number) 0) (same (rowAt rows (e .row)) (e .words)) refl refl
-    where
-      go : (x y : Bool) → eqb (r .number) 0 ≡ x → same (rowAt rows (e .row)) (e .words) ≡ y → Step s rows t e o
-      go false y a b = step-refused (eqb-false (r .number) 0 a)
-      go true true a b = step-unchanged (eqb-true (r .number) 0 a) (same-eq _ _ b)
-      go true false a b = step-changed (eqb-true (r .number) 0 a) (λ w. true≢false (sym (rw w (same-refl (e .words))) ∙ b))
+  step = by-cases s rows t e (λ (x : Outcome). Step s rows t e x) step-refused step-unchanged step-changed
 
 -- ---- A list of edits.
 
@@ -283,7 +278,7 @@ listed s (e ∷ es) o f =
     let q : Listed s (edited s (o .score) (o .left) e) es = listed s es (edited s (o .score) (o .left) e) (p .stands) in
     record {
       score = q .score ∙ ap (λ (x : List ℕ). scoreAfter x es) (p .score);
-      count = q .count ∙ p .count;
+      count = q .count ∙ edit-count s (o .score) (o .left) e;
       stands = q .stands;
       each = (p .is-right, q .each);
     }

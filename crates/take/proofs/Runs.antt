@@ -13,7 +13,7 @@ use Rattle.utils.specs.Holds.{none, plus, total}
 use Rattle.utils.specs.declared.holds.Holds.{Holds}
 use Rattle.score.specs.Rows.{rowAt}
 use Rattle.rows.specs.declared.Report.{Report}
-use Rattle.rows.specs.Rows.{Setup, Take, keptAt, wordsBefore, Row, rowBy, rowIn, putWords, both, Run, idle, after, stopsOf, runOf}
+use Rattle.rows.specs.Rows.{Setup, Take, keptAt, beforeRow, wordsBefore, Row, rowBy, rowIn, putWords, both, Run, idle, after, stopsOf, runOf}
 use Rattle.take.specs.Retakes.{wordsAt, Elsewhere, holdsOf, madeFrom}
 use Rattle.take.proofs.Takes.{Roomy, SameLengths, lengths-then, roomy-still, row-sized, put-lengths, put-elsewhere, put-words, elsewhere-then, words-elsewhere}
 
@@ -25,7 +25,7 @@ module _ (s : Setup) (rows : List ℕ) where
   -- The words before a row are those of the row before it.
   pub before-same : (t u : Take) (i : ℕ) → ((j : ℕ) → suc j ≡ i → wordsAt (s .frames) u j ≡ wordsAt (s .frames) t j)
       → wordsBefore s (u .kept) i ≡ wordsBefore s (t .kept) i
-  unfolding wordsBefore
+  unfolding beforeRow
   before-same t u zero h = refl
   before-same t u (suc i) h = ap (λ (w : Take). w .kept) (h i refl)
 
@@ -94,13 +94,13 @@ module _ (s : Setup) (rows : List ℕ) where
 
       -- Before row a + 1 they are those that row a keeps.
       next-kept : wordsBefore s (next .kept) (a + 1) ≡ made-row .words .kept
-      unfolding wordsBefore
+      unfolding beforeRow
       next-kept =
           let q : a + 1 ≡ suc a = omega arith in
           ap (λ (i : ℕ). wordsBefore s (next .kept) i) q ∙ ap (λ (w : Take). w .kept) next-here
 
       old-kept : wordsBefore s (t .kept) (a + 1) ≡ keptAt (t .kept) a
-      unfolding wordsBefore
+      unfolding beforeRow
       old-kept =
           let q : a + 1 ≡ suc a = omega arith in
           ap (λ (i : ℕ). wordsBefore s (t .kept) i) q
@@ -143,10 +143,12 @@ module _ (s : Setup) (rows : List ℕ) where
       ran-more e e' r x x' o d =
           let u = r .left in
           let end : a + 1 + r .report .rows ≡ a + (1 + r .report .rows) = omega arith in
+          let more : suc (r .report .rows) ≡ 1 + r .report .rows = omega arith in
           let kept : (j : ℕ) → j ≤ a → wordsAt (s .frames) u j ≡ wordsAt (s .frames) next j =
           λ j l. words-elsewhere (s .frames) (a + 1) (a + 1 + r .report .rows) next u (d .elsewhere) j (inl (omega arith)) in
           let here = made-here u kept in
-          let beyond : (i : ℕ) → a + 2 ≤ i → StopsAt t u i ≡ StopsAt next u i = λ i l. ap (λ (w : List ℕ). stopsOf n rows i w (wordsBefore s (u .kept) i)) (sym (next-before i (inr l))) in
+          let beyond : (i : ℕ) → a + 2 ≤ i → StopsAt t u i ≡ StopsAt next u i =
+          λ i l. ap (λ (w : List ℕ). stopsOf n rows i w (wordsBefore s (u .kept) i)) (sym (next-before i (inr l))) in
           record {
             least = least o;
             most = omega (arith, d .most);
@@ -155,7 +157,10 @@ module _ (s : Setup) (rows : List ℕ) where
                 elsewhere-then (s .frames) a (a + (1 + r .report .rows)) t next u (omega arith) next-elsewhere
                 (subst (λ (j : ℕ). Elsewhere (s .frames) (a + 1) j next u) end (d .elsewhere));
             made = λ i y z. made i z (here .1) (eq-or-lt-of-le y);
-            holds = ap (λ (x : Holds). plus (made-row .holds) x) (d .holds) ∙ ap (λ (m : Row). plus (m .holds) (holdsOf (madeFrom s rows (u .kept) (r .report .rows) (a + 1)))) (sym (here .0));
+            holds =
+                ap (λ (x : Holds). plus (made-row .holds) x) (d .holds)
+                ∙ ap (λ (m : Row). plus (m .holds) (holdsOf (madeFrom s rows (u .kept) (r .report .rows) (a + 1)))) (sym (here .0))
+                ∙ ap (λ (l : ℕ). holdsOf (madeFrom s rows (u .kept) l a)) more;
             stops = subst (λ (j : ℕ). StopsAt t u j ≡ true) end (beyond (a + 1 + r .report .rows) (omega (arith, d .least)) ∙ d .stops);
             smallest = λ i y z. smallest beyond kept i z o y;
           }
