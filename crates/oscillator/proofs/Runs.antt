@@ -1,16 +1,11 @@
 -- A lent run that a loop fills keeps its length; what it then begins with is what the loop's frames give, since both are read alike at each entry.
-use mathlib.Core.Path.{_≡_, refl, sym, ap, _∙_}
+use mathlib.Core.Path.{_≡_, refl, sym, _∙_}
 use mathlib.Core.List.{List}
 use Prim.Native.Nat.{ℕ, _+_, _<_}
-use native.Mathlib.Numerals.{add-one}
 use lib.ListN.{length, set, take, length-set}
 use lib.Seq.{length-take-le, getD-take, ext-getD}
 use Rattle.utils.specs.Frames.{stateAfter, eachOf, Filled}
-use Rattle.utils.proofs.Frames.{filled-none, filled-more, after-suc, each-length, each-at}
-
--- a loop that carries a state, one turn on
-pub after-more : {S : Type 0} (next : S → S) (i : ℕ) (s₀ s t : S) → t ≡ next s → s ≡ stateAfter next i s₀ → t ≡ stateAfter next (i + 1) s₀
-after-more next i s₀ s t e h = rw (add-one, after-suc next i s₀) (e ∙ ap next h)
+use Rattle.utils.proofs.Frames.{filled-none, filled-more, each-length, each-at}
 
 -- a lent run, filled up to i: its first i entries are what f says of their places
 pub record Filling {A : Type 0} (f : ℕ → A) (d : A) (xs₀ xs : List A) (i : ℕ) : Type 0 where

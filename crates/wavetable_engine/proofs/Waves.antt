@@ -5,7 +5,8 @@ use Prim.Native.Nat.{ℕ, _+_, _*_, _%_, _<_}
 use native.Mathlib.Omega.{arith}
 use lib.Dec.{eqb}
 use borrow.Author.Tests.{ne-eqb}
-use Rattle.wavetable_engine.specs.Wavetable.{wave, waves, spread}
+use Rattle.oscillator.specs.Bank.{waves}
+use Rattle.wavetable_engine.specs.Wavetable.{wave, spread}
 
 pub wave-below : (x y z : ℕ) → wave x y z < 192
 unfolding wave

@@ -5,14 +5,13 @@ ghost use mathlib.Core.List.{[], _∷_};
 ghost use lib.ListN.{length};
 ghost use lib.Ieee.{nan};
 ghost use Rattle.utils.specs.Frames.{Filled};
-ghost use Rattle.wavetable_engine.specs.Wavetable.{bankLength, waves, waveLength, tableSize, maxFrames, spread, wave, foldLevel, cornersAt, mix, foldX, foldY, foldZ};
+ghost use Rattle.utils.specs.Rendered.{mostFrames};
+ghost use Rattle.oscillator.specs.Bank.{bankLength, waves, waveLength, tableSize};
+ghost use Rattle.wavetable_engine.specs.Wavetable.{spread, wave, foldLevel, cornersAt, mix, foldX, foldY, foldZ};
 ghost use Rattle.wavetable_engine.specs.Stages.{KeysFit, LevelFits, placesOfLevel, placesOf, readAt, readLevel, CornersRead, stored, loaded, mixAt};
+use oscillator::bank::WAVE_LENGTH;
+use oscillator::bank::WAVES;
 use oscillator::wavetable_oscillator::interpolate_wave_hermite;
-
-// The bank: 192 waves of 132.
-const WAVES: usize = 192;
-
-const WAVE_LENGTH: usize = crate::TABLE_SIZE + 4;
 
 // How far apart the neighbours of level 3 lie in the bank, along x and along y.
 const SPREAD: usize = 101;
@@ -182,7 +181,7 @@ pub fn read_all(
     phases: &[f32; 256],
     corners: &mut [f32],
 )
-    requires { ⌜ (length (now bank) ≡ bankLength) × ((size ≤ maxFrames) × (size * 8 ≤ length (now corners))) ⌝ }
+    requires { ⌜ (length (now bank) ≡ bankLength) × ((size ≤ mostFrames) × (size * 8 ≤ length (now corners))) ⌝ }
     requires { ⌜ KeysFit (now keys) size ⌝ }
     ensures { λ _. ⌜ CornersRead (now (bank .entry)) (now (keys .entry)) (now (phases .entry)) (now (corners .exit)) size ⌝ }
 {
@@ -260,7 +259,7 @@ pub fn fold_all(
     corners: &[f32; 1024],
     mixes: &mut [f32],
 )
-    requires { ⌜ (size ≤ maxFrames) × (size ≤ length (now mixes)) ⌝ }
+    requires { ⌜ (size ≤ mostFrames) × (size ≤ length (now mixes)) ⌝ }
     ensures { λ _. ⌜ Filled (mixAt (now (xs .entry)) (now (ys .entry)) (now (zs .entry)) (now (corners .entry))) nan (now (mixes .exit)) size ⌝ }
 {
     let mut i = 0;

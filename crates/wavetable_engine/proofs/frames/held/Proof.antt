@@ -2,7 +2,8 @@
 use mathlib.Core.Logic.{⊎-elim}
 use mathlib.Core.Bool.{Bool, true, false, cond, _||_}
 use mathlib.Core.Path.{_≡_, sym, ap, _∙_}
-use Rattle.wavetable_engine.specs.Wavetable.{heldOf}
+use Rattle.utils.specs.Holds.{none}
+use Rattle.wavetable_engine.specs.Wavetable.{frameHold, holdsOf}
 use Rattle.wavetable_engine.proofs.frames.held.Statement.{statement}
 use Rattle.wavetable_engine.proofs.frames.held.Tie as tie
 use Rattle.wavetable_engine.proofs.frames.held.Reads as reads
@@ -24,12 +25,12 @@ any-of c =
     four ∙ ap (λ (b : Bool). b || p .phase .held) (three ∙ ap (λ (b : Bool). b || p .z .held) two)
 
 returns : tie.Need-returns
-unfolding heldOf
-returns c = ap (λ (b : Bool). cond b 1 0) (sym (c .if4 .taken) ∙ any-of (c .before))
+unfolding holdsOf
+returns c = ap (λ (b : Bool). cond b frameHold none) (sym (c .if4 .taken) ∙ any-of (c .before))
 
 returns-2 : tie.Need-returns-2
-unfolding heldOf
-returns-2 c = ap (λ (b : Bool). cond b 1 0) (sym (c .if4 .left) ∙ any-of (c .before))
+unfolding holdsOf
+returns-2 c = ap (λ (b : Bool). cond b frameHold none) (sym (c .if4 .left) ∙ any-of (c .before))
 
 pub held-spec : {M : Type 1} → statement M
 held-spec = tie.close (tie.spec returns returns-2)

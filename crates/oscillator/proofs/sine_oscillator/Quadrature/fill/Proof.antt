@@ -8,7 +8,8 @@ use Rattle.words.specs.Binary32.{_⊗_}
 use Rattle.utils.specs.Frames.{stateAfter}
 use Rattle.oscillator.specs.declared.sine_oscillator.Quadrature.{Quadrature}
 use Rattle.oscillator.specs.Path.{quadratureNext, quadratureOut, quadratureOut2}
-use Rattle.oscillator.proofs.Runs.{after-more, Filling, filling-none, filling-more, filled-run}
+use Rattle.utils.proofs.Frames.{after-more}
+use Rattle.oscillator.proofs.Runs.{Filling, filling-none, filling-more, filled-run}
 use Rattle.oscillator.proofs.sine_oscillator.Quadrature.fill.Statement.{statement}
 use Rattle.oscillator.proofs.sine_oscillator.Quadrature.fill.Tie as tie
 

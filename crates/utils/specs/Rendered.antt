@@ -1,0 +1,32 @@
+-- A voice's block, in the words that every voice uses: what a block gives, and what a call of `render` leaves by it.
+use Prim.Native.Nat.{ℕ, _*_, _≤_}
+use mathlib.Core.Path.{_≡_}
+use mathlib.Core.List.{List}
+use lib.ListN.{length}
+use Rattle.utils.specs.Holds.{AtMost}
+use Rattle.utils.specs.declared.holds.Holds.{Holds}
+
+-- "frames 0 or above 128" are refused.
+abbrev pub mostFrames : ℕ
+mostFrames = 128
+
+-- What a block gives: its out and aux words, the next state, and what was held.
+pub record Rendered (S : Type 0) : Type 0 where
+  pub out : List ℕ
+  pub aux : List ℕ
+  pub state : S
+  pub holds : Holds
+
+-- The places that are lent for the samples: one in out and one in aux for each frame.
+pub record Places (out aux : List ℕ) : Type 0 where
+  pub few-frames : length out ≤ mostFrames
+  pub aux-long : length aux ≡ length out
+
+-- What a call of `render` leaves, by a block of n frames: the words lent, the state and the holds that it answers.
+-- No frame holds more than four times.
+pub record Renders {S : Type 0} (b : Rendered S) (n : ℕ) (state : S) (holds : Holds) (out aux : List ℕ) : Type 0 where
+  pub out-is : out ≡ b .out
+  pub aux-is : aux ≡ b .aux
+  pub state-is : state ≡ b .state
+  pub holds-is : holds ≡ b .holds
+  pub holds-most : AtMost (4 * n) holds
