@@ -11,14 +11,14 @@ use lib.ListN.{length}
 use Rattle.words.specs.Lists.{same}
 use Rattle.words.proofs.Places.{part-end}
 use Rattle.utils.specs.Holds.{none, plus, AtMost, mostCount}
-use Rattle.utils.specs.Rendered.{mostFrames}
+use Rattle.utils.specs.Rendered.{mostFrames, mostHolds}
 use Rattle.utils.specs.declared.holds.Holds.{Holds}
 use Rattle.utils.proofs.Sums.{plus-none, none-plus, plus-assoc, most-none, most-more, most-plus}
 use Rattle.score.specs.Rows.{rowWords, mostRows, rowAt, restarts}
 use Rattle.voice.specs.Voice.{keptCount}
 use Rattle.rows.specs.declared.Report.{Report}
 use Rattle.rows.specs.Rows.{Setup, Take, Row, keptAt, rowIn, nothing, both, Run, reported, idle, after, stopsOf, runOf}
-use Rattle.rows.specs.Inner.{mostHeld, Holding, Room, RowDone, endOf}
+use Rattle.rows.specs.Inner.{Holding, Room, RowDone, endOf}
 
 -- ---- Reports, summed.
 
@@ -50,7 +50,7 @@ pub room : (frames n k : ℕ) (rows : List ℕ) (t₀ t : Take) → Holding fram
 room frames n k rows t₀ t f h e =
     let b : k * frames + frames ≤ n * frames = part-end k n frames h in
     record {
-      frames-right = f .frames-right;
+      frames-most = f .frames-most;
       row-most = omega (arith, f .rows-most);
       rows-room = omega (arith, f .rows-room);
       out-room = omega (arith, f .out-room, e .out-long);
@@ -66,7 +66,7 @@ pub record Running (s : Setup) (rows : List ℕ) (n from to : ℕ) (t₀ t : Tak
   pub most : end ≤ n
   pub since : from ≤ k
   pub lengths : SameLengths t₀ t
-  pub few : AtMost (k * (mostHeld * mostFrames)) holds
+  pub few : AtMost (k * (mostHolds * mostFrames)) holds
   pub is : (l : ℕ) → l + (k - from) ≡ n → after (report (k - from) holds) (runOf s rows n l k end t) ≡ runOf s rows n n from to t₀
 
 module _ (s : Setup) (rows : List ℕ) (n from to : ℕ) where
@@ -77,7 +77,7 @@ module _ (s : Setup) (rows : List ℕ) (n from to : ℕ) where
         most = m;
         since = le-refl from;
         lengths = record { out-long = refl; aux-long = refl; kept-long = refl };
-        few = most-none (from * (mostHeld * mostFrames));
+        few = most-none (from * (mostHolds * mostFrames));
         is = λ l e.
             let z : from - from ≡ 0 = omega arith in
             let x : l ≡ n = omega arith in
@@ -158,7 +158,7 @@ module _ (s : Setup) (rows : List ℕ) (n from to : ℕ) where
     pub running-more : (e ≡ 0 → ⊥) → SameLengths t t' → Running s rows n from to t₀ t' (k + 1) e (plus holds h)
     running-more z g =
         let d = next z in
-        let c : k * (mostHeld * mostFrames) + mostHeld * s .frames ≤ (k + 1) * (mostHeld * mostFrames) = omega arith in
+        let c : k * (mostHolds * mostFrames) + mostHolds * s .frames ≤ (k + 1) * (mostHolds * mostFrames) = omega arith in
         record {
           at = d .further;
           most = d .within;
@@ -172,8 +172,9 @@ module _ (s : Setup) (rows : List ℕ) (n from to : ℕ) where
           is = d .goes;
         }
 
-    -- The sum of the holds fits.
-    pub sum-fits : n ≤ mostRows → AtMost mostCount (plus holds h)
-    sum-fits f =
-        let c : k * (mostHeld * mostFrames) + mostHeld * s .frames ≤ mostCount = omega (arith, r .at, r .most) in
-        most-more c (most-plus (r .few) (done .holds-most))
+  -- The sum of the holds fits.
+  pub sum-fits : (t₀ t : Take) (k end : ℕ) (holds h : Holds) → s .frames ≤ mostFrames → n ≤ mostRows → AtMost (mostHolds * s .frames) h
+      → Running s rows n from to t₀ t k end holds → AtMost mostCount (plus holds h)
+  sum-fits t₀ t k end holds h f m a r =
+      let c : k * (mostHolds * mostFrames) + mostHolds * s .frames ≤ mostCount = omega (arith, r .at, r .most) in
+      most-more c (most-plus (r .few) a)

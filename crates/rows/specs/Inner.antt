@@ -6,31 +6,22 @@ use mathlib.Core.Bool.{Bool, cond, _||_}
 use lib.Dec.{eqb}
 use lib.ListN.{length}
 use Rattle.words.specs.Lists.{same}
-use Rattle.utils.specs.Rendered.{mostFrames}
+use Rattle.utils.specs.Rendered.{mostFrames, mostHolds}
 use Rattle.utils.specs.Holds.{AtMost}
 use Rattle.utils.specs.declared.holds.Holds.{Holds}
 use Rattle.score.specs.Rows.{rowWords, mostRows, rowAt, restarts}
 use Rattle.voice.specs.Voice.{keptCount}
 use Rattle.rows.specs.Rows.{Setup, Take, Row, keptAt, rowIn, putWords}
 
--- A frame counts at most four holds: two oversamples times two layers.
-abbrev pub mostHeld : ℕ
-mostHeld = 4
-
--- A block's frames.
-pub record Frames (frames : ℕ) : Type 0 where
-  pub frames-some : 0 < frames
-  pub frames-most : frames ≤ mostFrames
-
 -- What is lent for a block: a word of out and of aux for each frame.
 pub record Blocks (frames : ℕ) (out aux : List ℕ) : Type 0 where
-  pub frames-right : Frames frames
+  pub frames-most : frames ≤ mostFrames
   pub out-long : length out ≡ frames
   pub aux-long : length aux ≡ frames
 
 -- The lent words hold n rows.
 pub record Holding (frames n : ℕ) (rows : List ℕ) (t : Take) : Type 0 where
-  pub frames-right : Frames frames
+  pub frames-most : frames ≤ mostFrames
   pub rows-most : n ≤ mostRows
   pub rows-room : n * rowWords ≤ length rows
   pub out-room : n * frames ≤ length (t .out)
@@ -39,7 +30,7 @@ pub record Holding (frames n : ℕ) (rows : List ℕ) (t : Take) : Type 0 where
 
 -- Row k lies within the lent words.
 pub record Room (frames k : ℕ) (rows out aux kept : List ℕ) : Type 0 where
-  pub frames-right : Frames frames
+  pub frames-most : frames ≤ mostFrames
   pub row-most : k < mostRows
   pub rows-room : k * rowWords + rowWords ≤ length rows
   pub out-room : k * frames + frames ≤ length out
@@ -52,12 +43,12 @@ pub record Makes (frames : ℕ) (m : Row) (holds : Holds) (out aux kept : List �
   pub aux-is : aux ≡ m .words .aux
   pub kept-is : kept ≡ m .words .kept
   pub holds-is : holds ≡ m .holds
-  pub holds-most : AtMost (mostHeld * frames) holds
+  pub holds-most : AtMost (mostHolds * frames) holds
 
 -- Row k is made and written: its holds, whether it keeps the words that stood there, and the take with its words put in.
 pub record RowDone (s : Setup) (rows : List ℕ) (k : ℕ) (t : Take) (holds : Holds) (unchanged : Bool) (left : Take) : Type 0 where
   pub holds-is : holds ≡ rowIn s rows (t .kept) k .holds
-  pub holds-most : AtMost (mostHeld * s .frames) holds
+  pub holds-most : AtMost (mostHolds * s .frames) holds
   pub same-is : unchanged ≡ same (keptAt (t .kept) k) (rowIn s rows (t .kept) k .words .kept)
   pub left-is : left ≡ putWords (s .frames) t k (rowIn s rows (t .kept) k .words)
 

@@ -82,11 +82,16 @@ fn words_before(instrument: u32, rate: u32, kept: &[u32], k: usize) -> [u32; KEP
 }
 
 // The state that a row begins with, by the words of the state before it.
-fn start(instrument: u32, rate: u32, row: [u32; ROW_WORDS], before: [u32; KEPT_WORDS]) -> voice::State
+fn start(
+    instrument: u32,
+    rate: u32,
+    row: [u32; ROW_WORDS],
+    before: [u32; KEPT_WORDS],
+) -> voice::State
     ensures { λ r. ⌜ r ≡ startOf (freshState (voiceOf instrument) (a0Of rate)) row (stateOf (voiceOf instrument) before) ⌝ }
 {
-    let restarts = score::rows::restarts(row);
-    if restarts {
+    let afresh = score::rows::restarts(row);
+    if afresh {
         return fresh_start(instrument, rate);
     }
     voice::state_of(voice::voice_of(instrument), &before)

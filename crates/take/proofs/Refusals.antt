@@ -11,7 +11,7 @@ use lib.ListN.{length}
 use Rattle.utils.specs.Rendered.{mostFrames}
 use Rattle.oscillator.specs.Bank.{bankLength}
 use Rattle.wave_terrain_engine.specs.Heights.{mapLength}
-use Rattle.voice.specs.Voice.{Lent, keptCount}
+use Rattle.voice.specs.Voice.{Lent, mapInstrument, keptCount}
 use Rattle.score.specs.declared.refusal.Refusal.{Refusal}
 use Rattle.score.specs.Rows.{rowWords, mostRows, putRow}
 use Rattle.score.specs.Limits.{limitRefusal}
@@ -20,7 +20,6 @@ use Rattle.rows.specs.Rows.{Setup, Take}
 use Rattle.rows.specs.Inner.{Holding}
 use Rattle.take.specs.Take.{
   rowCount,
-  terrainWithMap,
   mapLengthOf,
   wrongInstrument,
   wrongRate,
@@ -53,7 +52,6 @@ not-not true e = refl
 not-not false e = absurd (true≢false e)
 
 pub record SettingsRight (instrument frames bank map : ℕ) : Type 0 where
-  pub frames-some : 0 < frames
   pub frames-most : frames ≤ mostFrames
   pub bank-long : bank ≡ bankLength
   pub map-long : map ≡ mapLengthOf instrument
@@ -67,9 +65,7 @@ settings-right instrument rate frames bank map e =
     let d = passed (wrongBank bank) 3 _ (c .1) in
     let f = passed (wrongMap instrument map) 4 _ (d .1) in
     let g = neither _ _ (c .0) in
-    let some : frames ≡ 0 → ⊥ = eqb-false frames 0 (g .0) in
     record {
-      frames-some = omega (arith, some);
       frames-most = ltb-false mostFrames frames (g .1);
       bank-long = eqb-true bank bankLength (not-not _ (d .0));
       map-long = eqb-true map (mapLengthOf instrument) (not-not _ (f .0));
@@ -114,7 +110,7 @@ pub record Usable (s : Setup) (rows : List ℕ) (t : Take) : Type 0 where
   pub fit : LengthsRight (s .frames) (length rows) (length (t .out)) (length (t .aux)) (length (t .kept))
 
 map-lengths : (i m : ℕ) → m ≡ mapLengthOf i → (m ≡ 0) ⊎ (m ≡ mapLength)
-map-lengths i m e = go (eqb i terrainWithMap) e
+map-lengths i m e = go (eqb i mapInstrument) e
   where
     go : (b : Bool) → m ≡ cond b mapLength 0 → (m ≡ 0) ⊎ (m ≡ mapLength)
     go true q = inr q
@@ -143,7 +139,7 @@ holding s rows rows' t u e =
     let a = u .settings in
     let b = u .fit in
     record {
-      frames-right = record { frames-some = a .frames-some; frames-most = a .frames-most };
+      frames-most = a .frames-most;
       rows-most = b .rows-most;
       rows-room = omega (arith, b .rows-long);
       out-room = omega (arith, b .out-long);

@@ -9,7 +9,7 @@ use Rattle.words.specs.Lists.{same}
 use Rattle.utils.specs.Rendered.{mostFrames}
 use Rattle.oscillator.specs.Bank.{bankLength}
 use Rattle.wave_terrain_engine.specs.Heights.{mapLength}
-use Rattle.voice.specs.Voice.{keptCount}
+use Rattle.voice.specs.Voice.{mapInstrument, keptCount}
 use Rattle.score.specs.Rows.{rowWords, mostRows, rowAt, putRow}
 use Rattle.score.specs.Limits.{limitRefusal}
 use Rattle.score.specs.Numbers.{
@@ -38,13 +38,9 @@ rowCount rows = length rows / rowWords
 
 -- ---- Refusals.
 
--- "0 wavetable, 1 terrain, 2 terrain with map"
-abbrev pub terrainWithMap : ℕ
-terrainWithMap = 2
-
 -- 1: "not 0 wavetable, 1 terrain, 2 terrain with map"
 abbrev pub wrongInstrument : ℕ → Bool
-wrongInstrument instrument = ltb terrainWithMap instrument
+wrongInstrument instrument = ltb mapInstrument instrument
 
 -- 2: "whole number of Hz outside 32,000 to 192,000"
 abbrev pub lowestRate : ℕ
@@ -66,7 +62,7 @@ wrongBank bank = not (eqb bank bankLength)
 
 -- 5: "length not 4,096 for 2, not 0 for 0 and 1"
 abbrev pub mapLengthOf : ℕ → ℕ
-mapLengthOf instrument = cond (eqb instrument terrainWithMap) mapLength 0
+mapLengthOf instrument = cond (eqb instrument mapInstrument) mapLength 0
 
 abbrev pub wrongMap : ℕ → ℕ → Bool
 wrongMap instrument map = not (eqb map (mapLengthOf instrument))

@@ -19,14 +19,12 @@ use score::rows::MOST_ROWS;
 use score::rows::ROW_WORDS;
 use utils::engine::MOST_FRAMES;
 use voice::KEPT_WORDS;
+use voice::TERRAIN_WITH_MAP;
 use wave_terrain_engine::MAP_LENGTH;
 
 const LOWEST_RATE: u32 = 32000;
 
 const HIGHEST_RATE: u32 = 192000;
-
-// The instrument that reads a map. Below it: 0 wavetable, 1 terrain.
-const TERRAIN_WITH_MAP: u32 = 2;
 
 // The length of an instrument's map.
 fn map_length(instrument: u32) -> usize
@@ -110,7 +108,13 @@ fn lent_number(
         (lent (now (out .entry)) (now (aux .entry)) (now (kept .entry))) ⌝ }
 {
     let frames = settings.frames;
-    let number = settings_number(settings.instrument, settings.rate, frames, bank.len(), map.len());
+    let number = settings_number(
+        settings.instrument,
+        settings.rate,
+        frames,
+        bank.len(),
+        map.len(),
+    );
     if number != 0 {
         return number;
     }

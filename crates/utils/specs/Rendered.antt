@@ -22,11 +22,14 @@ pub record Places (out aux : List ℕ) : Type 0 where
   pub few-frames : length out ≤ mostFrames
   pub aux-long : length aux ≡ length out
 
+-- The most holds of a frame: a terrain's readings, two oversamples of two layers.
+abbrev pub mostHolds : ℕ
+mostHolds = 4
+
 -- What a call of `render` leaves, by a block of n frames: the words lent, the state and the holds that it answers.
--- No frame holds more than four times.
 pub record Renders {S : Type 0} (b : Rendered S) (n : ℕ) (state : S) (holds : Holds) (out aux : List ℕ) : Type 0 where
   pub out-is : out ≡ b .out
   pub aux-is : aux ≡ b .aux
   pub state-is : state ≡ b .state
   pub holds-is : holds ≡ b .holds
-  pub holds-most : AtMost (4 * n) holds
+  pub holds-most : AtMost (mostHolds * n) holds
