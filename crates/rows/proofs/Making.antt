@@ -64,7 +64,6 @@ pub row-done : (s : Setup) (rows : List ℕ) (k : ℕ) (t : Take) (row before : 
     → out' ≡ put (t .out) (k * s .frames) out → aux' ≡ put (t .aux) (k * s .frames) aux
     → b ≡ same (keptAt (t .kept) k) new → kept' ≡ put (t .kept) (k * keptCount) new → RowDone s rows k t holds b (lent out' aux' kept')
 row-done s rows k t row before holds b out aux new out' aux' kept' er eb m eo ea es ek =
-
     record {
       holds-is = rw (er, eb) at (m .holds-is);
       holds-most = m .holds-most;

@@ -22,7 +22,7 @@ use Rattle.rows.specs.Rows.{Setup, Take, wordsBefore, rowIn, Run, idle, stopsOf
 use Rattle.take.specs.declared.Answer.the-variants.{Done}
 use Rattle.take.specs.Take.{rowCount, lentNumber, scoreRefusal, editRefusal, resultOf, Outcome, refusedBy, ran, editOf}
 use Rattle.take.specs.Retakes.{Edit, withRow, edited, Stop, First, Elsewhere, Writes, Right, wordsAt, madeFrom, holdsOf, Retaken, Retakes}
-use Rattle.take.proofs.Refusals.{Usable, usable, refusal-none, score-none}
+use Rattle.take.proofs.Calls.{edit-refused, edit-room, edit-score, edit-holding, edit-same, edit-run}
 use Rattle.take.proofs.Takes.{Roomy, SameLengths}
 use Rattle.take.proofs.Runs.{StopsAt, Ran, run-ran}
 
@@ -80,25 +80,9 @@ module _ (s : Setup) (rows : List ℕ) (t : Take) (e : Edit) where
   abbrev r : Refusal
   r = editRefusal s rows (e .row) (e .words) t
 
-  pub edit-refused : (r .number ≡ 0 → ⊥) → edited s rows t e ≡ refusedBy r rows t
-  unfolding editOf
-  edit-refused h = rw (ne-eqb (r .number) 0 h)
-
   module _ (z : r .number ≡ 0) where
-    pub edit-lent : lentNumber s rows t ≡ 0
-    unfolding editRefusal
-    edit-lent = refusal-none (lentNumber s rows t) (scoreRefusal rows (e .row) (e .words)) z .0
-
-    pub edit-score : scoreRefusal rows (e .row) (e .words) .number ≡ 0
-    unfolding editRefusal
-    edit-score = refusal-none (lentNumber s rows t) (scoreRefusal rows (e .row) (e .words)) z .1
-
-    pub edit-below : e .row < rowCount rows
-    edit-below = score-none rows (e .row) (e .words) edit-score .0
-
     pub edit-unchanged : rowAt rows (e .row) ≡ e .words → edited s rows t e ≡ ran rows (idle t)
-    unfolding editOf
-    edit-unchanged w = rw (eq-eqb (r .number) 0 z, w, same-refl (e .words))
+    edit-unchanged w = edit-same s rows t (e .row) (e .words) z (rw w (same-refl (e .words)))
 
     -- An edit that changes words is a run over its row's stretch.
     module _ (w : rowAt rows (e .row) ≡ e .words → ⊥) where
@@ -114,12 +98,11 @@ module _ (s : Setup) (rows : List ℕ) (t : Take) (e : Edit) where
       abbrev pub run : Run
       run = runOf s rows' n n k (k + 1) t
 
-      pub edit-run : edited s rows t e ≡ ran rows' run
-      unfolding editOf
-      edit-run = rw (eq-eqb (r .number) 0 z, differs (rowAt rows k) (e .words) w)
+      pub edited-run : edited s rows t e ≡ ran rows' run
+      edited-run = edit-run s rows t k (e .words) z (differs (rowAt rows k) (e .words) w)
 
       row-room : k * rowWords + rowWords ≤ length rows
-      row-room = omega (arith, edit-below)
+      row-room = edit-room s rows t k (e .words) z
 
       pub rows-long : length rows' ≡ length rows
       rows-long = put-long rowWords k rows (e .words) row-room (e .five)
@@ -129,16 +112,11 @@ module _ (s : Setup) (rows : List ℕ) (t : Take) (e : Edit) where
 
       room : Roomy s n rows' t
       room =
-          let f = usable s rows t edit-lent .fit in
-          record {
-            rows-room = omega (arith, rows-long, f .rows-long);
-            out-room = omega (arith, f .out-long);
-            aux-room = omega (arith, f .aux-long);
-            kept-room = omega (arith, f .kept-long);
-          }
+          let h = edit-holding s rows t k (e .words) z (e .five) in
+          record { rows-room = h .rows-room; out-room = h .out-room; aux-room = h .aux-room; kept-room = h .kept-room }
 
       pub edit-ran : Ran s rows' n k (k + 1) t run
-      edit-ran = run-ran s rows' n n k (k + 1) t (omega arith) (omega (arith, edit-below)) (omega arith) room
+      edit-ran = run-ran s rows' n n k (k + 1) t (omega arith) (omega (arith, edit-score s rows t k (e .words) z .0)) (omega arith) room
 
       writes : (o : Outcome) → o ≡ ran rows' run → (holds : Holds) → run .report .holds ≡ holds → Writes s rows t e o (k + run .report .rows) holds
       writes o q holds h =
@@ -160,9 +138,9 @@ module _ (s : Setup) (rows : List ℕ) (t : Take) (e : Edit) where
           d .holds ∙ ap (λ (l : ℕ). holdsOf (madeFrom s rows' (run .left .kept) l k)) c in
           record {
             stop = k + run .report .rows;
-            first = rw edit-run (ran-first s rows' n k t run d);
-            made = rw edit-run (d .made);
-            writes = writes (edited s rows t e) edit-run _ (h ∙ rw edit-run refl);
+            first = rw edited-run (ran-first s rows' n k t run d);
+            made = rw edited-run (d .made);
+            writes = writes (edited s rows t e) edited-run _ (h ∙ rw edited-run refl);
           }
 
 pub retakes : Retakes
@@ -170,7 +148,7 @@ unfolding resultOf
 retakes s rows t e =
     record {
       refuses = λ h.
-          let q = edit-refused s rows t e h in
+          let q = edit-refused s rows t (e .row) (e .words) h in
           (ap (λ (o : Outcome). resultOf (o .answer)) q, record { score = ap (λ (o : Outcome). o .score) q; left = ap (λ (o : Outcome). o .left) q });
       unchanged = λ z w.
           let q = edit-unchanged s rows t e z w in
@@ -196,6 +174,6 @@ module _ (s : Setup) (rows : List ℕ) (t : Take) (e : Edit) (P : Outcome → Ty
 pub edit-count : (s : Setup) (rows : List ℕ) (t : Take) (e : Edit) → rowCount (edited s rows t e .score) ≡ rowCount rows
 edit-count s rows t e =
     by-cases s rows t e (λ (o : Outcome). rowCount (o .score) ≡ rowCount rows)
-    (λ h. ap (λ (o : Outcome). rowCount (o .score)) (edit-refused s rows t e h))
+    (λ h. ap (λ (o : Outcome). rowCount (o .score)) (edit-refused s rows t (e .row) (e .words) h))
     (λ z w. ap (λ (o : Outcome). rowCount (o .score)) (edit-unchanged s rows t e z w))
-    (λ z w. ap (λ (o : Outcome). rowCount (o .score)) (edit-run s rows t e z w) ∙ ap (λ (l : ℕ). l / rowWords) (rows-long s rows t e z w))
+    (λ z w. ap (λ (o : Outcome). rowCount (o .score)) (edited-run s rows t e z w) ∙ ap (λ (l : ℕ). l / rowWords) (rows-long s rows t e z w))

@@ -18,11 +18,11 @@ use Rattle.score.specs.Numbers.{refusal, accepted, limitNumber}
 use Rattle.rows.specs.Rows.{Setup, Take, beforeRow, rowBy, Run}
 use Rattle.take.specs.Take.{rowCount, lentNumber, renderRefusal, editRefusal, Outcome, renderOf}
 use Rattle.take.specs.Retakes.{Edit, withRow, edited, after, wordsAt, Accepted, Inherits, Inherited}
-use Rattle.take.proofs.Refusals.{refusal-none, score-none}
+use Rattle.take.proofs.Calls.{render-limits, render-run, edit-refused, edit-score}
 use Rattle.take.proofs.Takes.{words-elsewhere}
 use Rattle.take.proofs.Runs.{Made, Ran}
-use Rattle.take.proofs.Editing.{edit-refused, edit-score, edit-unchanged, edit-run, edit-ran, by-cases, edit-count}
-use Rattle.take.proofs.Retakes.{lt-or-le, accepted-is, all, render-is, render-ran, rendered-rows}
+use Rattle.take.proofs.Editing.{edit-unchanged, edited-run, edit-ran, by-cases, edit-count}
+use Rattle.take.proofs.Retakes.{lt-or-le, accepted-is, all, render-ran, rendered-rows}
 
 -- ---- A score that 9 does not refuse.
 
@@ -88,12 +88,12 @@ module _ (s : Setup) (Has : Take → Type 0) (law : Inherits s Has) where
   edit-has rows t e b =
       let n = rowCount rows in
       by-cases s rows t e (λ (o : Outcome). Before (o .left) n)
-      (λ h. subst (λ (o : Outcome). Before (o .left) n) (sym (edit-refused s rows t e h)) b)
+      (λ h. subst (λ (o : Outcome). Before (o .left) n) (sym (edit-refused s rows t (e .row) (e .words) h)) b)
       (λ z w. subst (λ (o : Outcome). Before (o .left) n) (sym (edit-unchanged s rows t e z w)) b)
       (λ z w.
-      let good = each-within n (withRow rows e) (score-none rows (e .row) (e .words) (edit-score s rows t e z) .1) in
+      let good = each-within n (withRow rows e) (edit-score s rows t (e .row) (e .words) z .1) in
       let all = run-has (withRow rows e) n _ _ t _ good (edit-ran s rows t e z w) (λ i _ h. b i h) n (omega arith) in
-      subst (λ (o : Outcome). Before (o .left) n) (sym (edit-run s rows t e z w)) all)
+      subst (λ (o : Outcome). Before (o .left) n) (sym (edited-run s rows t e z w)) all)
 
   -- ---- A list of edits.
 
@@ -105,13 +105,12 @@ module _ (s : Setup) (Has : Take → Type 0) (law : Inherits s Has) where
       rw c at (list-has es (edited s (o .score) (o .left) e) (rw c (edit-has (o .score) (o .left) e b)))
 
 pub inherited : Inherited
-unfolding renderRefusal
 inherited s Has law rows t es x =
     let a = accepted-is s rows t x in
-    let q = render-is s rows t a in
+    let q = render-run s rows t a in
     let n = rowCount rows in
     let c : rowCount (renderOf s rows t .score) ≡ n = ap (λ (o : Outcome). rowCount (o .score)) q in
-    let good = each-within n rows (refusal-none (lentNumber s rows t) (limitRefusal n rows) a .1) in
+    let good = each-within n rows (render-limits s rows t a) in
     let m : all s rows t a .report .rows ≡ n = rendered-rows s rows t a in
     let none : (i : ℕ) → (i < 0) ⊎ (0 + all s rows t a .report .rows ≤ i) → i < n → Has (wordsAt (s .frames) t i) = λ i o h. absurd (outside n i m h o) in
     let first = run-has s Has law rows n 0 n t (all s rows t a) good (render-ran s rows t a) none n (omega arith) in

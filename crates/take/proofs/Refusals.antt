@@ -64,7 +64,7 @@ settings-right instrument rate frames bank map e =
     let c = passed (wrongBlock frames) 2 _ (b .1) in
     let d = passed (wrongBank bank) 3 _ (c .1) in
     let f = passed (wrongMap instrument map) 4 _ (d .1) in
-    let g = neither _ _ (c .0) in
+    let g = neither (eqb frames 0) (ltb mostFrames frames) (c .0) in
     record {
       frames-most = ltb-false mostFrames frames (g .1);
       bank-long = eqb-true bank bankLength (not-not _ (d .0));

@@ -23,11 +23,12 @@ use Rattle.rows.specs.Rows.{Setup, Take, wordsBefore, Row, startOf, rowFrom, ro
 use Rattle.take.specs.declared.Answer.the-variants.{Done}
 use Rattle.take.specs.Take.{rowCount, lentNumber, scoreRefusal, refusalOf, renderRefusal, editRefusal, resultOf, Outcome, refusedBy, ran, renderOf}
 use Rattle.take.specs.Retakes.{fresh, takeOf, holdsOf, rowsFrom, beforeIn, Edit, withRow, scoreOne, scoreAfter, edited, after, Stop, First, Right, wordsAt, madeFrom, Retaken, FreshRetaken, EachRight, Accepted, Demand3}
-use Rattle.take.proofs.Refusals.{usable, refusal-none}
+use Rattle.take.proofs.Refusals.{usable}
 use Rattle.take.proofs.Takes.{Roomy, SameLengths, words-elsewhere}
 use Rattle.take.proofs.Runs.{Made, made-still, before-same, Ran, run-ran}
 use Rattle.take.proofs.FreshRows.{fresh-long, before-fresh, rows-fresh, Sized, all-fresh}
-use Rattle.take.proofs.Editing.{edit-refused, edit-lent, edit-score, edit-unchanged, edit-run, edit-ran, rows-long, score-elsewhere, by-cases, edit-count, retakes}
+use Rattle.take.proofs.Calls.{render-lent, render-run, edit-refused}
+use Rattle.take.proofs.Editing.{edit-unchanged, edited-run, edit-ran, rows-long, score-elsewhere, by-cases, edit-count, retakes}
 
 -- ---- Laws that the steps cite.
 
@@ -94,17 +95,9 @@ module _ (s : Setup) (rows : List ℕ) (t : Take) (e : renderRefusal s rows t .n
   abbrev pub all : Run
   all = runOf s rows n n 0 n t
 
-  lent-none : lentNumber s rows t ≡ 0
-  unfolding renderRefusal
-  lent-none = refusal-none (lentNumber s rows t) (limitRefusal n rows) e .0
-
-  pub render-is : renderOf s rows t ≡ ran rows all
-  unfolding renderOf
-  render-is = rw (eq-eqb (renderRefusal s rows t .number) 0 e)
-
   pub render-ran : Ran s rows n 0 n t all
   render-ran =
-      let u = usable s rows t lent-none in
+      let u = usable s rows t (render-lent s rows t e) in
       let f = u .fit in
       run-ran s rows n n 0 n t (f .rows-some) (omega arith) (omega arith)
       (record {
@@ -120,7 +113,7 @@ module _ (s : Setup) (rows : List ℕ) (t : Take) (e : renderRefusal s rows t .n
   rendered-stands : Stands s rows (all .left)
   rendered-stands =
       record {
-        lent-right = same-lent s rows rows t (all .left) refl (render-ran .lengths) ∙ lent-none;
+        lent-right = same-lent s rows rows t (all .left) refl (render-ran .lengths) ∙ render-lent s rows t e;
         made = λ i h. render-ran .made i (omega arith) (omega (arith, rendered-rows));
       }
 
@@ -160,7 +153,7 @@ module _ (s : Setup) (rows : List ℕ) (t : Take) (e : Edit) (f : Stands s rows 
   step-refused : (r .number ≡ 0 → ⊥) → Step s rows t e o
   unfolding scoreOne
   step-refused h =
-      let q = edit-refused s rows t e h in
+      let q = edit-refused s rows t (e .row) (e .words) h in
       let a : o .score ≡ rows = ap (λ (x : Outcome). x .score) q in
       let b : o .left ≡ t = ap (λ (x : Outcome). x .left) q in
       untouched a b (a ∙ sym (rw (ne-eqb (scoreRefusal rows (e .row) (e .words) .number) 0 (λ z. h (score-number ∙ z)))))
@@ -251,7 +244,7 @@ module _ (s : Setup) (rows : List ℕ) (t : Take) (e : Edit) (f : Stands s rows 
       step-changed : Step s rows t e o
       step-changed =
           let c : o .score ≡ rows' = d .writes .score in
-          let same = subst (λ (x : Outcome). SameLengths t (x .left)) (sym (edit-run s rows t e z w)) (edit-ran s rows t e z w .lengths) in
+          let same = subst (λ (x : Outcome). SameLengths t (x .left)) (sym (edited-run s rows t e z w)) (edit-ran s rows t e z w .lengths) in
           let v = same-lent s rows rows' t u long same in
           record {
             is-right = record { refuses = λ h. absurd (h z); unchanged = λ _ x. absurd (w x); changed = λ _ _. retaken };
@@ -299,7 +292,7 @@ accepted-is s rows t e = go (eqb (renderRefusal s rows t .number) 0) (eqb-true (
 pub demand-3 : Demand3
 demand-3 s rows t es e =
     let a : renderRefusal s rows t .number ≡ 0 = accepted-is s rows t e in
-    let q = render-is s rows t a in
+    let q = render-run s rows t a in
     let p : Listed s (renderOf s rows t) es = listed s es (renderOf s rows t) (rw q (rendered-stands s rows t a)) in
     let c : after s (renderOf s rows t) es .score ≡ scoreAfter rows es = p .score ∙ ap (λ (o : Outcome). scoreAfter (o .score) es) q in
     let n : rowCount (after s (renderOf s rows t) es .score) ≡ rowCount rows = p .count ∙ ap (λ (o : Outcome). rowCount (o .score)) q in
