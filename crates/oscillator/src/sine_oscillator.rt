@@ -7,8 +7,10 @@ ghost use lib.ListN.{length, take};
 ghost use lib.Ieee.{binary32, ofBits, lt};
 ghost use Rattle.words.specs.Binary32.{decimal};
 ghost use Rattle.utils.specs.Frames.{stateAfter, eachOf};
+ghost use Rattle.utils.specs.Rendered.{runLength};
 ghost use Rattle.oscillator.specs.Path.{pathFresh, fast2Sin, limitedFrequency, limitedAmplitude, onCircle, quadratureOf, quadratureNext, quadratureOut, quadratureOut2, pathRun, pathRun2, pathAfter};
 ghost use Rattle.oscillator.specs.Sine.{sineOf};
+use utils::engine::RUN_LENGTH;
 use utils::parameter_interpolator::ParameterInterpolator;
 
 // The sine of a phase from 0 to below 8192: one whole part, of 512 times the phase.
@@ -75,10 +77,10 @@ impl FastSineOscillator {
         frequency: f32,
         amplitude: f32,
         n: usize,
-        out: &mut [f32; 256],
-        out_2: &mut [f32; 256],
+        out: &mut [f32; RUN_LENGTH],
+        out_2: &mut [f32; RUN_LENGTH],
     ) -> FastSineOscillator
-        requires { ⌜ n ≤ 256 ⌝ }
+        requires { ⌜ n ≤ runLength ⌝ }
         ensures { λ r. ⌜ r ≡ pathAfter self frequency amplitude n ⌝ }
         ensures { λ _. ⌜ take n (now (out .exit)) ≡ pathRun self frequency amplitude n ⌝ }
         ensures { λ _. ⌜ take n (now («out_2» .exit)) ≡ pathRun2 self frequency amplitude n ⌝ }

@@ -6,7 +6,7 @@ ghost use lib.ListN.{length, getD, take};
 ghost use lib.Ieee.{nan};
 ghost use Rattle.utils.specs.Holds.{AtMost};
 ghost use Rattle.utils.specs.Frames.{stateAfter, sumOf, Filled};
-ghost use Rattle.wave_terrain_engine.specs.Block.{Lent, oversampling, layerTop, interpolatorsNext, shiftedX, between, outOf, phaseOf};
+ghost use Rattle.wave_terrain_engine.specs.Block.{Lent, oversampling, topWithMap, layerTop, interpolatorsNext, shiftedX, between, outOf, phaseOf};
 ghost use Rattle.wave_terrain_engine.specs.Stages.{stageX, stageLayer, stageFraction, stageHeight, stageOut, stagePhase, stageAux, Room, FramesDone};
 use crate::terrain::terrain;
 use oscillator::sine_oscillator::sine;
@@ -55,7 +55,7 @@ pub fn shift(
     layers: &mut [u32],
     fractions: &mut [f32],
 ) -> Interpolators
-    requires { ⌜ top ≤ 7 ⌝ }
+    requires { ⌜ top ≤ topWithMap ⌝ }
     requires { ⌜ (n * oversampling ≤ length (now run)) × ((n * oversampling ≤ length (now xs)) × ((n ≤ length (now layers)) × (n ≤ length (now fractions)))) ⌝ }
     ensures { λ r. ⌜ r ≡ stateAfter interpolatorsNext n start ⌝ }
     ensures { λ _. ⌜ Filled (stageX (now (run .entry)) start) nan (now (xs .exit)) (n * oversampling) ⌝ }
