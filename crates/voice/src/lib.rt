@@ -186,7 +186,8 @@ pub fn render(
     requires { ⌜ Lent (now bank) (now map) ⌝ }
     requires { ⌜ Tables (now sine) (now high) (now low) ⌝ }
     requires { ⌜ Places (now out) (now aux) ⌝ }
-    ensures { λ r. ⌜ Renders (rendered (now (bank .entry)) (now (map .entry)) (length (now (out .entry))) parameters state) (length (now (out .entry))) (r .state) (r .holds) (now (out .exit)) (now (aux .exit)) ⌝ }
+    ensures { λ r. ⌜ Renders (rendered (now (bank .entry)) (now (map .entry)) (length (now (out .entry))) parameters state)
+        (length (now (out .entry))) (r .state) (r .holds) (now (out .exit)) (now (aux .exit)) ⌝ }
 {
     match state {
         State::Wavetable(w) => {

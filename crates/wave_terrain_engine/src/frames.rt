@@ -95,7 +95,8 @@ pub fn heights(
     requires { ⌜ ((j : ℕ) → j < n → getD (now layers) (j / oversampling) 0 + up ≤ layerTop (now map) + 1) ⌝ }
     ensures { λ r. ⌜ AtMost n r ⌝ }
     ensures { λ r. ⌜ r ≡ sumOf suc (λ (j : ℕ). stageHeight (now (table .entry)) (now (bank .entry)) (now (map .entry)) (now (xs .entry)) (now (ys .entry)) (now (layers .entry)) up j .holds) n 0 ⌝ }
-    ensures { λ _. ⌜ Filled (λ (j : ℕ). stageHeight (now (table .entry)) (now (bank .entry)) (now (map .entry)) (now (xs .entry)) (now (ys .entry)) (now (layers .entry)) up j .value) nan (now (zs .exit)) n ⌝ }
+    ensures { λ _. ⌜ Filled (λ (j : ℕ). stageHeight (now (table .entry)) (now (bank .entry)) (now (map .entry)) (now (xs .entry)) (now (ys .entry)) (now (layers .entry)) up j .value)
+        nan (now (zs .exit)) n ⌝ }
 {
     let mut holds = utils::holds::none();
     let mut i = 0;
@@ -197,7 +198,10 @@ pub fn render_frames(
     requires { ⌜ (top ≡ layerTop (now map)) × (length (now aux) ≡ length (now out)) ⌝ }
     requires { ⌜ Room (length (now out)) (now run) (now «run_2») (now xs) (now z1s) (now layers) (now fractions) ⌝ }
     ensures { λ r. ⌜ r .end ≡ stateAfter interpolatorsNext (length (now (out .entry))) start ⌝ }
-    ensures { λ r. ⌜ FramesDone (now (table .entry)) (now (bank .entry)) (now (map .entry)) (take (oversampling * length (now (out .entry))) (now (run .entry))) (take (oversampling * length (now (out .entry))) (now («run_2» .entry))) start (length (now (out .entry))) (r .holds) (now (out .exit)) (now (aux .exit)) ⌝ }
+    ensures { λ r. ⌜ FramesDone (now (table .entry)) (now (bank .entry)) (now (map .entry))
+        (take (oversampling * length (now (out .entry))) (now (run .entry)))
+        (take (oversampling * length (now (out .entry))) (now («run_2» .entry)))
+        start (length (now (out .entry))) (r .holds) (now (out .exit)) (now (aux .exit)) ⌝ }
 {
     let n = out.len();
     let end = shift(start, n, top, run, xs, layers, fractions);

@@ -83,7 +83,8 @@ impl WaveTerrainEngine {
     ) -> Block
         requires { ⌜ Lent (now bank) (now map) ⌝ }
         requires { ⌜ Places (now out) (now aux) ⌝ }
-        ensures { λ r. ⌜ Renders (rendered (now (bank .entry)) (now (map .entry)) (now (sine .entry)) (now (high .entry)) (now (low .entry)) (length (now (out .entry))) parameters self) (length (now (out .entry))) (r .state) (r .holds) (now (out .exit)) (now (aux .exit)) ⌝ }
+        ensures { λ r. ⌜ Renders (rendered (now (bank .entry)) (now (map .entry)) (now (sine .entry)) (now (high .entry)) (now (low .entry)) (length (now (out .entry))) parameters self)
+            (length (now (out .entry))) (r .state) (r .holds) (now (out .exit)) (now (aux .exit)) ⌝ }
     {
         let n = out.len();
         let f0 = utils::engine::note_to_frequency(

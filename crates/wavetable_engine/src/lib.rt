@@ -178,7 +178,8 @@ impl WavetableEngine {
     ) -> Block
         requires { ⌜ length (now bank) ≡ bankLength ⌝ }
         requires { ⌜ Places (now out) (now aux) ⌝ }
-        ensures { λ r. ⌜ Renders (rendered (now (bank .entry)) (now (high .entry)) (now (low .entry)) (length (now (out .entry))) parameters self) (length (now (out .entry))) (r .state) (r .holds) (now (out .exit)) (now (aux .exit)) ⌝ }
+        ensures { λ r. ⌜ Renders (rendered (now (bank .entry)) (now (high .entry)) (now (low .entry)) (length (now (out .entry))) parameters self)
+            (length (now (out .entry))) (r .state) (r .holds) (now (out .exit)) (now (aux .exit)) ⌝ }
     {
         let size = out.len();
         let m = self.set_up(parameters, high, low, size);

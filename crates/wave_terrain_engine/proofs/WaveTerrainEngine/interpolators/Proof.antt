@@ -22,7 +22,12 @@ new-requires-2 c κs = search needs
 
 returns : tie.Need-returns
 unfolding interpolatorsOf ofBits decimal
-returns c = rw (c .new2 .ensures, c .before .min .ensures, c .before .before .before .float-of-u64 .ensures, c .before .before .before .before .num-terrains .ensures, c .before .before .before .before .before .new .ensures)
+returns c =
+    let at-min = c .before in
+    let at-float-of-u64 = at-min .before .before in
+    let at-num-terrains = at-float-of-u64 .before in
+    let at-new = at-num-terrains .before in
+    rw (c .new2 .ensures, at-min .min .ensures, at-float-of-u64 .float-of-u64 .ensures, at-num-terrains .num-terrains .ensures, at-new .new .ensures)
 
 pub interpolators-spec : {M : Type 1} → statement M
 interpolators-spec =
