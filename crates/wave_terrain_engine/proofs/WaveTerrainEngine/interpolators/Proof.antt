@@ -1,3 +1,4 @@
+-- The start of the frames, by what each helper ensures.
 use lib.Ieee.{ofBits}
 use Rattle.words.specs.Binary32.{decimal}
 use Rattle.wave_terrain_engine.specs.Block.{interpolatorsOf}

@@ -1,3 +1,4 @@
+-- The start of the quadrature, by what each helper ensures.
 use Rattle.oscillator.specs.Path.{quadratureOf}
 use borrow.Author.Needs.{needs}
 use Rattle.oscillator.proofs.sine_oscillator.Quadrature.new.Statement.{statement}
