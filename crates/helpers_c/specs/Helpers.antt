@@ -15,7 +15,7 @@ abbrev word : Float → ℕ
 word x = toBits binary32 x
 
 -- The rate of the frequencies.
-abbrev rate : ℕ
+abbrev pub rate : ℕ
 rate = 48000
 
 -- The answer of a helper, by its number, at a float.

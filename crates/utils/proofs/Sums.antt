@@ -1,9 +1,9 @@
 -- Holds are summed by one law, for frames, rows and calls: the total of two lists is the sum of their totals. Each law goes by the record's fields.
-use mathlib.Core.Path.{_≡_, refl, sym, ap, _∙_}
+use mathlib.Core.Path.{_≡_, sym, ap, _∙_}
 use mathlib.Core.List.{List, [], _∷_, _++_}
 use Prim.Native.Nat.{ℕ, _+_, _≤_}
 use native.Mathlib.Omega.{arith}
-use Rattle.utils.specs.Holds.{none, plus, total, AtMost, mostCount}
+use Rattle.utils.specs.Holds.{none, plus, total, AtMost}
 use Rattle.utils.specs.declared.holds.Holds.{Holds}
 
 -- two records of the same counts

@@ -10,6 +10,13 @@ use Rattle.utils.specs.declared.holds.Holds.{Holds}
 abbrev pub mostFrames : ℕ
 mostFrames = 128
 
+-- "two runs of 256 floats, of which twice the frame count is used"; and eight corners for each frame.
+abbrev pub runLength : ℕ
+runLength = 2 * mostFrames
+
+abbrev pub cornersLength : ℕ
+cornersLength = 8 * mostFrames
+
 -- What a block gives: its out and aux words, the next state, and what was held.
 pub record Rendered (S : Type 0) : Type 0 where
   pub out : List ℕ

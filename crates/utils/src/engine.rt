@@ -6,6 +6,11 @@ ghost use Rattle.utils.specs.Units.{a0Of, noteToFrequency};
 // The most frames of a block.
 pub const MOST_FRAMES: usize = 128;
 
+// The lengths of the arrays that are lent to a voice to work in: two samples of a path for each frame, and eight corners.
+pub const RUN_LENGTH: usize = 2 * MOST_FRAMES;
+
+pub const CORNERS_LENGTH: usize = 8 * MOST_FRAMES;
+
 // The parameters of a block.
 pub struct EngineParameters {
     // Pitch in semitones, 0 to 120.

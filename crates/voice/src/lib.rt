@@ -5,7 +5,10 @@ ghost use Rattle.utils.specs.Rendered.{Places, Renders};
 ghost use Rattle.voice.specs.Voice.{voiceOf, keptCount, freshState, keptWords, wavetableOf, terrainOf, stateOf, rendered, Lent, Tables};
 use oscillator::sine_oscillator::FastSineOscillator;
 use oscillator::wavetable_oscillator::Differentiator;
+use utils::engine::CORNERS_LENGTH;
 use utils::engine::EngineParameters;
+use utils::engine::MOST_FRAMES;
+use utils::engine::RUN_LENGTH;
 use utils::holds::Holds;
 use wave_terrain_engine::WaveTerrainEngine;
 use wavetable_engine::WavetableEngine;
@@ -171,19 +174,20 @@ pub fn render(
     sine: &[f32; 641],
     high: &[f32; 256],
     low: &[f32; 256],
-    keys: &mut [u32; 128],
-    run_1: &mut [f32; 256],
-    run_2: &mut [f32; 256],
-    run_3: &mut [f32; 256],
-    run_4: &mut [f32; 256],
-    corners: &mut [f32; 1024],
+    keys: &mut [u32; MOST_FRAMES],
+    run_1: &mut [f32; RUN_LENGTH],
+    run_2: &mut [f32; RUN_LENGTH],
+    run_3: &mut [f32; RUN_LENGTH],
+    run_4: &mut [f32; RUN_LENGTH],
+    corners: &mut [f32; CORNERS_LENGTH],
     out: &mut [u32],
     aux: &mut [u32],
 ) -> Block
     requires { ⌜ Lent (now bank) (now map) ⌝ }
     requires { ⌜ Tables (now sine) (now high) (now low) ⌝ }
     requires { ⌜ Places (now out) (now aux) ⌝ }
-    ensures { λ r. ⌜ Renders (rendered (now (bank .entry)) (now (map .entry)) (length (now (out .entry))) parameters state) (length (now (out .entry))) (r .state) (r .holds) (now (out .exit)) (now (aux .exit)) ⌝ }
+    ensures { λ r. ⌜ Renders (rendered (now (bank .entry)) (now (map .entry)) (length (now (out .entry))) parameters state)
+        (length (now (out .entry))) (r .state) (r .holds) (now (out .exit)) (now (aux .exit)) ⌝ }
 {
     match state {
         State::Wavetable(w) => {

@@ -45,7 +45,8 @@ use Rattle.wave_terrain_engine.specs.declared.terrain.Reading.{Reading}
 use Rattle.wave_terrain_engine.proofs.Counts.{count-pairs}
 
 -- a layer and the next one, or the same, are within
-pub layer-fits : (map layers : List ℕ) (start : Interpolators) (top n up j : ℕ) → top ≡ layerTop map → Filled (stageLayer top start) 0 layers n → j < n * 2 → up ≤ 1 → getD layers (j / 2) 0 + up ≤ layerTop map + 1
+pub layer-fits : (map layers : List ℕ) (start : Interpolators) (top n up j : ℕ)
+    → top ≡ layerTop map → Filled (stageLayer top start) 0 layers n → j < n * 2 → up ≤ 1 → getD layers (j / 2) 0 + up ≤ layerTop map + 1
 layer-fits map layers start top n up j e p l u =
     let k : getD layers (j / 2) 0 ≡ stageLayer top start (j / 2) = p .done (j / 2) (omega arith) in
     omega (arith, k, held-most top (stepped (stateAfter interpolatorsNext (j / 2) start .«terrain_idx») .value))

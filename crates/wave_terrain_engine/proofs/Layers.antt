@@ -1,9 +1,9 @@
--- Which layers there are: the last one, 8, is there only with a map.
+-- Which layers there are: the map's is there only with a map. And a layer holds at most once.
 use mathlib.Core.Path.{_≡_, refl}
 use mathlib.Core.Logic.{_⊎_, inl, inr}
 use mathlib.Core.Bool.{Bool, true, false, cond}
 use mathlib.Core.List.{List}
-use Prim.Native.Nat.{ℕ, suc, _+_, _-_, _*_, _/_, _≤_, zero-le}
+use Prim.Native.Nat.{ℕ, suc, _+_, _-_, _*_, _/_, _≤_}
 use native.Mathlib.Omega.{arith}
 use borrow.Author.Tests.{eqb-false}
 use lib.Dec.{eqb, leb, ltb}
@@ -18,7 +18,7 @@ use Rattle.utils.specs.declared.holds.Holds.{Holds}
 use Rattle.utils.proofs.Sums.{most-none, most-more}
 use Rattle.utils.proofs.Frames.{sum-most}
 use Rattle.oscillator.specs.Bank.{waveLength, tableSizeF}
-use Rattle.wave_terrain_engine.specs.Block.{Lent, layerTop}
+use Rattle.wave_terrain_engine.specs.Block.{Lent, top, topWithMap, layerTop}
 use Rattle.wave_terrain_engine.specs.Stages.{stageHeight}
 use Rattle.wave_terrain_engine.specs.Heights.{
   mapLength,
@@ -29,31 +29,33 @@ use Rattle.wave_terrain_engine.specs.Heights.{
   numWaves,
   bankEdge,
   bankHold,
+  lastBankLayer,
+  mapLayer,
   terrainLookupWt,
   terrainOf,
 }
 use Rattle.wave_terrain_engine.specs.declared.terrain.Reading.{Reading}
 use Rattle.wave_terrain_engine.proofs.Places.{held-most}
 
-seven-most : (b : Bool) → cond b 6 7 ≤ 7
-seven-most true = omega arith
-seven-most false = omega arith
+either-top : (b : Bool) → cond b top topWithMap ≤ topWithMap
+either-top true = omega arith
+either-top false = omega arith
 
-pub top-most : (map : List ℕ) → layerTop map ≤ 7
-top-most map = seven-most (eqb (length map) 0)
+pub top-most : (map : List ℕ) → layerTop map ≤ topWithMap
+top-most map = either-top (eqb (length map) 0)
 
-past-seven : (b : Bool) (i : ℕ) → i ≤ cond b 6 7 + 1 → 8 ≤ i → (b ≡ false) × (i ≡ 8)
-past-seven true i h l = absurd (omega arith)
-past-seven false i h l = (refl, omega arith)
+past-bank : (b : Bool) (i : ℕ) → i ≤ cond b top topWithMap + 1 → mapLayer ≤ i → (b ≡ false) × (i ≡ mapLayer)
+past-bank true i h l = absurd (omega arith)
+past-bank false i h l = (refl, omega arith)
 
-pub map-layer : (map : List ℕ) (i : ℕ) → i ≤ layerTop map + 1 → 8 ≤ i → i ≡ 8
-map-layer map i h l = past-seven (eqb (length map) 0) i h l .1
+pub map-layer : (map : List ℕ) (i : ℕ) → i ≤ layerTop map + 1 → mapLayer ≤ i → i ≡ mapLayer
+map-layer map i h l = past-bank (eqb (length map) 0) i h l .1
 
-pub map-there : (bank : List ℤ) (map : List ℕ) (i : ℕ) → Lent bank map → i ≤ layerTop map + 1 → 8 ≤ i → length map ≡ mapLength
+pub map-there : (bank : List ℤ) (map : List ℕ) (i : ℕ) → Lent bank map → i ≤ layerTop map + 1 → mapLayer ≤ i → length map ≡ mapLength
 map-there bank map i lent h l = pick (lent .map-long)
   where
     pick : (length map ≡ 0) ⊎ (length map ≡ mapLength) → length map ≡ mapLength
-    pick (inl e) = absurd (eqb-false (length map) 0 (past-seven (eqb (length map) 0) i h l .0) e)
+    pick (inl e) = absurd (eqb-false (length map) 0 (past-bank (eqb (length map) 0) i h l .0) e)
     pick (inr e) = e
 
 -- four numbers that i is not
@@ -95,8 +97,8 @@ terrain-held sine bank map x y i =
     (either-held (eqb i 2) _ _ unheld-most
     (either-held (eqb i 3) _ _ unheld-most
     (either-held (eqb i 4) _ _ unheld-most
-    (either-held (leb i 7) _ _ (bank-held bank x y (7 - i))
-    (either-held (eqb i 8) _ _ (map-held map x y) unheld-most))))))
+    (either-held (leb i lastBankLayer) _ _ (bank-held bank x y (lastBankLayer - i))
+    (either-held (eqb i mapLayer) _ _ (map-held map x y) unheld-most))))))
 
 pub reading-held : (r : Reading) (sine : List Float) (bank : List ℤ) (map : List ℕ) (x y : Float) (i : ℕ) → r ≡ terrainOf sine bank map x y i → AtMost 1 (r .holds)
 reading-held r sine bank map x y i e = rw e (terrain-held sine bank map x y i)

@@ -48,8 +48,14 @@ abbrev pub numTerrains : List ℕ → ℕ
 numTerrains map = cond (eqb (length map) 0) 8 9
 
 -- "The whole layer number is held at 6 without a map and 7 with one".
+abbrev pub top : ℕ
+top = 6
+
+abbrev pub topWithMap : ℕ
+topWithMap = 7
+
 abbrev pub layerTop : List ℕ → ℕ
-layerTop map = cond (eqb (length map) 0) 6 7
+layerTop map = cond (eqb (length map) 0) top topWithMap
 
 -- ---- A frame. Its state: the interpolators of offset and layer, and the next entry of the path's two runs.
 

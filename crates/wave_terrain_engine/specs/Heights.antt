@@ -124,7 +124,14 @@ terrainLookupWt bank x y number =
 abbrev pub unheld : Float → Reading
 unheld z = record { value = z; holds = none }
 
--- `terrain`: "Layers 0 to 7, and 8 with a map. Layers 5 to 7 read the lent bank".
+-- "Layers 5 to 7 read the lent bank", "and 8 with a map".
+abbrev pub lastBankLayer : ℕ
+lastBankLayer = 7
+
+abbrev pub mapLayer : ℕ
+mapLayer = 8
+
+-- `terrain`, layer by layer.
 unfoldable pub terrainOf : List Float → List ℤ → List ℕ → Float → Float → ℕ → Reading
 terrainOf sine bank map x y index =
     cond (eqb index 0) (unheld (terrain0 sine x y))
@@ -132,5 +139,5 @@ terrainOf sine bank map x y index =
     (cond (eqb index 2) (unheld (terrain2 sine x y))
     (cond (eqb index 3) (unheld (terrain3 sine x y))
     (cond (eqb index 4) (unheld (terrain4 sine x y))
-    (cond (leb index 7) (terrainLookupWt bank x y (7 - index))
-    (cond (eqb index 8) (terrainLookup map x y) (unheld (decimal 0 0))))))))
+    (cond (leb index lastBankLayer) (terrainLookupWt bank x y (lastBankLayer - index))
+    (cond (eqb index mapLayer) (terrainLookup map x y) (unheld (decimal 0 0))))))))

@@ -6,7 +6,7 @@ ghost use lib.ListN.{length, getD, take};
 ghost use lib.Ieee.{nan};
 ghost use Rattle.utils.specs.Holds.{AtMost};
 ghost use Rattle.utils.specs.Frames.{stateAfter, sumOf, Filled};
-ghost use Rattle.wave_terrain_engine.specs.Block.{Lent, oversampling, layerTop, interpolatorsNext, shiftedX, between, outOf, phaseOf};
+ghost use Rattle.wave_terrain_engine.specs.Block.{Lent, oversampling, topWithMap, layerTop, interpolatorsNext, shiftedX, between, outOf, phaseOf};
 ghost use Rattle.wave_terrain_engine.specs.Stages.{stageX, stageLayer, stageFraction, stageHeight, stageOut, stagePhase, stageAux, Room, FramesDone};
 use crate::terrain::terrain;
 use oscillator::sine_oscillator::sine;
@@ -55,7 +55,7 @@ pub fn shift(
     layers: &mut [u32],
     fractions: &mut [f32],
 ) -> Interpolators
-    requires { ⌜ top ≤ 7 ⌝ }
+    requires { ⌜ top ≤ topWithMap ⌝ }
     requires { ⌜ (n * oversampling ≤ length (now run)) × ((n * oversampling ≤ length (now xs)) × ((n ≤ length (now layers)) × (n ≤ length (now fractions)))) ⌝ }
     ensures { λ r. ⌜ r ≡ stateAfter interpolatorsNext n start ⌝ }
     ensures { λ _. ⌜ Filled (stageX (now (run .entry)) start) nan (now (xs .exit)) (n * oversampling) ⌝ }
@@ -95,7 +95,8 @@ pub fn heights(
     requires { ⌜ ((j : ℕ) → j < n → getD (now layers) (j / oversampling) 0 + up ≤ layerTop (now map) + 1) ⌝ }
     ensures { λ r. ⌜ AtMost n r ⌝ }
     ensures { λ r. ⌜ r ≡ sumOf suc (λ (j : ℕ). stageHeight (now (table .entry)) (now (bank .entry)) (now (map .entry)) (now (xs .entry)) (now (ys .entry)) (now (layers .entry)) up j .holds) n 0 ⌝ }
-    ensures { λ _. ⌜ Filled (λ (j : ℕ). stageHeight (now (table .entry)) (now (bank .entry)) (now (map .entry)) (now (xs .entry)) (now (ys .entry)) (now (layers .entry)) up j .value) nan (now (zs .exit)) n ⌝ }
+    ensures { λ _. ⌜ Filled (λ (j : ℕ). stageHeight (now (table .entry)) (now (bank .entry)) (now (map .entry)) (now (xs .entry)) (now (ys .entry)) (now (layers .entry)) up j .value)
+        nan (now (zs .exit)) n ⌝ }
 {
     let mut holds = utils::holds::none();
     let mut i = 0;
@@ -197,7 +198,10 @@ pub fn render_frames(
     requires { ⌜ (top ≡ layerTop (now map)) × (length (now aux) ≡ length (now out)) ⌝ }
     requires { ⌜ Room (length (now out)) (now run) (now «run_2») (now xs) (now z1s) (now layers) (now fractions) ⌝ }
     ensures { λ r. ⌜ r .end ≡ stateAfter interpolatorsNext (length (now (out .entry))) start ⌝ }
-    ensures { λ r. ⌜ FramesDone (now (table .entry)) (now (bank .entry)) (now (map .entry)) (take (oversampling * length (now (out .entry))) (now (run .entry))) (take (oversampling * length (now (out .entry))) (now («run_2» .entry))) start (length (now (out .entry))) (r .holds) (now (out .exit)) (now (aux .exit)) ⌝ }
+    ensures { λ r. ⌜ FramesDone (now (table .entry)) (now (bank .entry)) (now (map .entry))
+        (take (oversampling * length (now (out .entry))) (now (run .entry)))
+        (take (oversampling * length (now (out .entry))) (now («run_2» .entry)))
+        start (length (now (out .entry))) (r .holds) (now (out .exit)) (now (aux .exit)) ⌝ }
 {
     let n = out.len();
     let end = shift(start, n, top, run, xs, layers, fractions);

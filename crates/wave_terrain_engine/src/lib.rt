@@ -16,7 +16,10 @@ ghost use Rattle.utils.specs.Rendered.{Places, Renders};
 ghost use Rattle.wave_terrain_engine.specs.Block.{Lent, fresh, numTerrains, layerTop, radiusOf, interpolatorsOf, rendered};
 use frames::Interpolators;
 use oscillator::sine_oscillator::FastSineOscillator;
+use utils::engine::CORNERS_LENGTH;
 use utils::engine::EngineParameters;
+use utils::engine::MOST_FRAMES;
+use utils::engine::RUN_LENGTH;
 use utils::holds::Holds;
 use utils::parameter_interpolator::ParameterInterpolator;
 
@@ -69,18 +72,19 @@ impl WaveTerrainEngine {
         sine: &[f32; 641],
         high: &[f32; 256],
         low: &[f32; 256],
-        layers: &mut [u32; 128],
-        run_1: &mut [f32; 256],
-        run_2: &mut [f32; 256],
-        run_3: &mut [f32; 256],
-        run_4: &mut [f32; 256],
-        fractions: &mut [f32; 1024],
+        layers: &mut [u32; MOST_FRAMES],
+        run_1: &mut [f32; RUN_LENGTH],
+        run_2: &mut [f32; RUN_LENGTH],
+        run_3: &mut [f32; RUN_LENGTH],
+        run_4: &mut [f32; RUN_LENGTH],
+        fractions: &mut [f32; CORNERS_LENGTH],
         out: &mut [u32],
         aux: &mut [u32],
     ) -> Block
         requires { ⌜ Lent (now bank) (now map) ⌝ }
         requires { ⌜ Places (now out) (now aux) ⌝ }
-        ensures { λ r. ⌜ Renders (rendered (now (bank .entry)) (now (map .entry)) (now (sine .entry)) (now (high .entry)) (now (low .entry)) (length (now (out .entry))) parameters self) (length (now (out .entry))) (r .state) (r .holds) (now (out .exit)) (now (aux .exit)) ⌝ }
+        ensures { λ r. ⌜ Renders (rendered (now (bank .entry)) (now (map .entry)) (now (sine .entry)) (now (high .entry)) (now (low .entry)) (length (now (out .entry))) parameters self)
+            (length (now (out .entry))) (r .state) (r .holds) (now (out .exit)) (now (aux .exit)) ⌝ }
     {
         let n = out.len();
         let f0 = utils::engine::note_to_frequency(

@@ -76,7 +76,8 @@ module _ (bank : List ℤ) (lp : Float) (start : Frame) where
         ∙ sample-on (at j)
 
   -- the folded corners of frame j
-  pub mix-at : (size : ℕ) (r : Walked) (keys : List ℕ) (xs ys zs phases corners : List Float) → WalkedBy lp (start .positions) size r keys xs ys zs phases → CornersRead bank keys phases corners size → (j : ℕ) → j < size → mixAt xs ys zs corners j ≡ readingAt j
+  pub mix-at : (size : ℕ) (r : Walked) (keys : List ℕ) (xs ys zs phases corners : List Float)
+      → WalkedBy lp (start .positions) size r keys xs ys zs phases → CornersRead bank keys phases corners size → (j : ℕ) → j < size → mixAt xs ys zs corners j ≡ readingAt j
   unfolding reading
   mix-at size r keys xs ys zs phases corners w c j h =
       rw (
@@ -91,7 +92,8 @@ module _ (bank : List ℤ) (lp : Float) (start : Frame) where
       )
 
   -- a list of words, one a frame
-  pub words-are : (size : ℕ) (f : Float → Float) (g : Frame → Float) (samples : List Float) (out : List ℕ) → length out ≡ size → ((j : ℕ) → j < size → f (getD samples j nan) ≡ g (at j)) → Filled (λ j. toBits binary32 (f (getD samples j nan))) 0 out size → out ≡ eachOf next (λ s. toBits binary32 (g s)) size start
+  pub words-are : (size : ℕ) (f : Float → Float) (g : Frame → Float) (samples : List Float) (out : List ℕ) → length out ≡ size
+      → ((j : ℕ) → j < size → f (getD samples j nan) ≡ g (at j)) → Filled (λ j. toBits binary32 (f (getD samples j nan))) 0 out size → out ≡ eachOf next (λ s. toBits binary32 (g s)) size start
   words-are size f g samples out e same p =
       filled-all _ 0 out (eachOf next (λ s. toBits binary32 (g s)) size start) (each-length next _ size start ∙ sym e)
       (λ j h. let l : j < size = omega arith in each-at next _ 0 size start j l ∙ ap (toBits binary32) (sym (same j l)))
@@ -118,7 +120,8 @@ pub record Staged (bank : List ℤ) (size : ℕ) (m : SetUp) (d₀ : Differentia
   pub aux-long : length aux ≡ size
 
 -- said of the set-up by another name
-pub set-up-by : (bank : List ℤ) (size : ℕ) (m n : SetUp) (d₀ : Differentiator) (r : Walked) (d : Differentiator) (out aux : List ℕ) → m ≡ n → Staged bank size m d₀ r d out aux → Staged bank size n d₀ r d out aux
+pub set-up-by : (bank : List ℤ) (size : ℕ) (m n : SetUp) (d₀ : Differentiator) (r : Walked) (d : Differentiator) (out aux : List ℕ)
+    → m ≡ n → Staged bank size m d₀ r d out aux → Staged bank size n d₀ r d out aux
 set-up-by bank size m n d₀ r d out aux e g = subst (λ (k : SetUp). Staged bank size k d₀ r d out aux) e g
 
 module _ (bank : List ℤ) (high low : List Float) (size : ℕ) (parameters : EngineParameters) (s : WavetableEngine) where

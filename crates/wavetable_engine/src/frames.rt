@@ -9,6 +9,7 @@ ghost use Rattle.wavetable_engine.specs.Wavetable.{advanced, moved, part
 ghost use Rattle.wavetable_engine.specs.Stages.{PartsFit, keyOf, WalkedBy, sampleOf, differentiating};
 use oscillator::bank::TABLE_SIZE_F;
 use oscillator::wavetable_oscillator::Differentiator;
+use utils::engine::RUN_LENGTH;
 use utils::holds::Holds;
 use utils::parameter_interpolator::ParameterInterpolator;
 use words::Part;
@@ -149,7 +150,7 @@ pub fn differentiate_all(
     diff_out: Differentiator,
     f0: ParameterInterpolator,
     size: usize,
-    mixes: &[f32; 256],
+    mixes: &[f32; RUN_LENGTH],
     samples: &mut [f32],
 ) -> Differentiator
     requires { ⌜ (size ≤ mostFrames) × (size ≤ length (now samples)) ⌝ }
@@ -177,7 +178,7 @@ fn lofi(x: f32) -> f32
 }
 
 // The samples as words, and again in 5 bits.
-pub fn words_all(samples: &[f32; 256], out: &mut [u32], aux: &mut [u32])
+pub fn words_all(samples: &[f32; RUN_LENGTH], out: &mut [u32], aux: &mut [u32])
     requires { ⌜ (length (now out) ≤ mostFrames) × (length (now aux) ≡ length (now out)) ⌝ }
     ensures { λ _. ⌜ Filled (λ j. toBits binary32 (getD (now (samples .entry)) j nan)) 0 (now (out .exit)) (length (now (out .entry))) ⌝ }
     ensures { λ _. ⌜ Filled (λ j. toBits binary32 (lofi (getD (now (samples .entry)) j nan))) 0 (now (aux .exit)) (length (now (out .entry))) ⌝ }

@@ -15,12 +15,15 @@ ghost use Rattle.utils.specs.Rendered.{Places, Renders};
 ghost use Rattle.oscillator.specs.Bank.{bankLength};
 ghost use Rattle.wavetable_engine.specs.Wavetable.{fresh, clampBy, quantised, setUp, rendered};
 use oscillator::wavetable_oscillator::Differentiator;
+use utils::engine::CORNERS_LENGTH;
 use utils::engine::EngineParameters;
+use utils::engine::MOST_FRAMES;
+use utils::engine::RUN_LENGTH;
 use utils::holds::Holds;
 use utils::parameter_interpolator::ParameterInterpolator;
 
-pub mod frames;
-pub mod readings;
+mod frames;
+mod readings;
 
 // The state, in the order of its kept words.
 pub struct WavetableEngine {
@@ -164,18 +167,19 @@ impl WavetableEngine {
         bank: &[i16],
         high: &[f32; 256],
         low: &[f32; 256],
-        keys: &mut [u32; 128],
-        run_1: &mut [f32; 256],
-        run_2: &mut [f32; 256],
-        run_3: &mut [f32; 256],
-        run_4: &mut [f32; 256],
-        corners: &mut [f32; 1024],
+        keys: &mut [u32; MOST_FRAMES],
+        run_1: &mut [f32; RUN_LENGTH],
+        run_2: &mut [f32; RUN_LENGTH],
+        run_3: &mut [f32; RUN_LENGTH],
+        run_4: &mut [f32; RUN_LENGTH],
+        corners: &mut [f32; CORNERS_LENGTH],
         out: &mut [u32],
         aux: &mut [u32],
     ) -> Block
         requires { ⌜ length (now bank) ≡ bankLength ⌝ }
         requires { ⌜ Places (now out) (now aux) ⌝ }
-        ensures { λ r. ⌜ Renders (rendered (now (bank .entry)) (now (high .entry)) (now (low .entry)) (length (now (out .entry))) parameters self) (length (now (out .entry))) (r .state) (r .holds) (now (out .exit)) (now (aux .exit)) ⌝ }
+        ensures { λ r. ⌜ Renders (rendered (now (bank .entry)) (now (high .entry)) (now (low .entry)) (length (now (out .entry))) parameters self)
+            (length (now (out .entry))) (r .state) (r .holds) (now (out .exit)) (now (aux .exit)) ⌝ }
     {
         let size = out.len();
         let m = self.set_up(parameters, high, low, size);

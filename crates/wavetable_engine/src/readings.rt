@@ -5,13 +5,16 @@ ghost use mathlib.Core.List.{[], _∷_};
 ghost use lib.ListN.{length};
 ghost use lib.Ieee.{nan};
 ghost use Rattle.utils.specs.Frames.{Filled};
-ghost use Rattle.utils.specs.Rendered.{mostFrames};
+ghost use Rattle.utils.specs.Rendered.{mostFrames, cornersLength};
 ghost use Rattle.oscillator.specs.Bank.{bankLength, waves, waveLength, tableSize};
 ghost use Rattle.wavetable_engine.specs.Wavetable.{spread, wave, foldLevel, cornersAt, mix, foldX, foldY, foldZ};
 ghost use Rattle.wavetable_engine.specs.Stages.{KeysFit, LevelFits, placesOfLevel, placesOf, readAt, readLevel, CornersRead, stored, loaded, mixAt};
 use oscillator::bank::WAVE_LENGTH;
 use oscillator::bank::WAVES;
 use oscillator::wavetable_oscillator::interpolate_wave_hermite;
+use utils::engine::CORNERS_LENGTH;
+use utils::engine::MOST_FRAMES;
+use utils::engine::RUN_LENGTH;
 
 // How far apart the neighbours of level 3 lie in the bank, along x and along y.
 const SPREAD: usize = 101;
@@ -177,8 +180,8 @@ fn store(c: [[[f32; 2]; 2]; 2], at: usize, corners: &mut [f32])
 pub fn read_all(
     bank: &[i16],
     size: usize,
-    keys: &[u32; 128],
-    phases: &[f32; 256],
+    keys: &[u32; MOST_FRAMES],
+    phases: &[f32; RUN_LENGTH],
     corners: &mut [f32],
 )
     requires { ⌜ (length (now bank) ≡ bankLength) × ((size ≤ mostFrames) × (size * 8 ≤ length (now corners))) ⌝ }
@@ -197,8 +200,8 @@ pub fn read_all(
 }
 
 // The corners out of eight places of the list.
-fn load(corners: &[f32; 1024], at: usize) -> [[[f32; 2]; 2]; 2]
-    requires { ⌜ at + 7 < 1024 ⌝ }
+fn load(corners: &[f32; CORNERS_LENGTH], at: usize) -> [[[f32; 2]; 2]; 2]
+    requires { ⌜ at + 7 < cornersLength ⌝ }
     ensures { λ r. ⌜ r ≡ loaded (now (corners .entry)) at ⌝ }
 {
     [
@@ -253,10 +256,10 @@ fn fold_z(c: [f32; 2], t: f32) -> f32
 // The folded corners of `size` frames.
 pub fn fold_all(
     size: usize,
-    xs: &[f32; 256],
-    ys: &[f32; 256],
-    zs: &[f32; 256],
-    corners: &[f32; 1024],
+    xs: &[f32; RUN_LENGTH],
+    ys: &[f32; RUN_LENGTH],
+    zs: &[f32; RUN_LENGTH],
+    corners: &[f32; CORNERS_LENGTH],
     mixes: &mut [f32],
 )
     requires { ⌜ (size ≤ mostFrames) × (size ≤ length (now mixes)) ⌝ }

@@ -1,7 +1,8 @@
 -- The path and then the frames are the block, by the law of `Blocks`.
 use mathlib.Core.Path.{_≡_, sym}
-use lib.Ieee.{binary32, ofBits}
+use lib.Ieee.{nan, binary32, ofBits}
 use Rattle.words.specs.Binary32.{decimal}
+use Rattle.oscillator.proofs.Runs.{run-taken}
 use Rattle.wave_terrain_engine.specs.Block.{scale}
 use Rattle.wave_terrain_engine.proofs.Blocks.{block-renders}
 use Rattle.wave_terrain_engine.proofs.Places.{scale-half}
@@ -71,8 +72,8 @@ returns c =
     half-is
     (at-radius .radius-at .ensures)
     (path .0)
-    (path .1 .0)
-    (path .1 .1)
+    (run-taken _ _ nan _ _ _ _ (path .1 .0))
+    (run-taken _ _ nan _ _ _ _ (path .1 .1))
     (at-interpolators .interpolators .ensures)
     (frames .0)
     (frames .1)

@@ -68,7 +68,8 @@ sums-requires c κs =
 finish-requires : tie.Need-finish-requires
 finish-requires c κs =
     let at-sums = c .before .before .before .before .before .before in
-    let at-shift = at-sums .before .before .before .before .before .before .before .before .before .before .before .before .before .before .before .before .before .before .before .before .before .before .before .before in
+    let at-heights = at-sums .before .before .before .before .before .before .before .before .before .before .before .before .before .before in
+    let at-shift = at-heights .before .before .before .before .before .before .before .before .before .before in
     let entry = at-shift .before .before .before .before .before .before .before .before .before .before .before .before .before .before in
     omega (arith, entry .pre .1, at-shift .shift .kept, at-sums .sums .kept)
 
@@ -86,7 +87,8 @@ same-length c = search needs
 same-length-2 : tie.Need-same-length-2
 same-length-2 c =
     let at-sums = c .before .before .before .before .before .before .before .before .before .before in
-    let at-shift = at-sums .before .before .before .before .before .before .before .before .before .before .before .before .before .before .before .before .before .before .before .before .before .before .before .before in
+    let at-heights = at-sums .before .before .before .before .before .before .before .before .before .before .before .before .before .before in
+    let at-shift = at-heights .before .before .before .before .before .before .before .before .before .before in
     omega (arith, at-shift .shift .kept, at-sums .sums .kept)
 
 same-length-3 : tie.Need-same-length-3
@@ -94,12 +96,16 @@ same-length-3 c = search needs
 
 same-length-4 : tie.Need-same-length-4
 same-length-4 c =
-    let at-shift = c .before .before .before .before .before .before .before .before .before .before .before .before .before .before .before .before .before .before .before .before .before .before .before .before .before .before .before .before .before .before .before .before .before .before in
+    let at-sums = c .before .before .before .before .before .before .before .before .before .before in
+    let at-heights = at-sums .before .before .before .before .before .before .before .before .before .before .before .before .before .before in
+    let at-shift = at-heights .before .before .before .before .before .before .before .before .before .before in
     omega (arith, at-shift .shift .kept)
 
 same-length-5 : tie.Need-same-length-5
 same-length-5 c =
-    let at-shift = c .before .before .before .before .before .before .before .before .before .before .before .before .before .before .before .before .before .before .before .before .before .before .before .before .before .before .before .before .before .before .before .before .before .before in
+    let at-sums = c .before .before .before .before .before .before .before .before .before .before in
+    let at-heights = at-sums .before .before .before .before .before .before .before .before .before .before .before .before .before .before in
+    let at-shift = at-heights .before .before .before .before .before .before .before .before .before .before in
     omega (arith, at-shift .shift .kept)
 
 same-length-6 : tie.Need-same-length-6

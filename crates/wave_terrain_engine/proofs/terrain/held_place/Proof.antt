@@ -1,3 +1,4 @@
+-- A place, by its test against the edge.
 use mathlib.Core.Path.{sym}
 use Rattle.wave_terrain_engine.proofs.Places.{place-past, place-within}
 use Rattle.wave_terrain_engine.proofs.terrain.held_place.Statement.{statement}

@@ -3,13 +3,13 @@ use mathlib.Core.Path.{_≡_}
 use Prim.Native.Nat.{ℕ, _≤_, zero-le}
 use Rattle.wave_terrain_engine.proofs.Layers.{map-there, map-layer, none-of-four}
 use borrow.Author.Needs.{needs}
-use Rattle.wave_terrain_engine.specs.Heights.{terrainOf}
+use Rattle.wave_terrain_engine.specs.Heights.{mapLayer, terrainOf}
 use Rattle.wave_terrain_engine.proofs.terrain.terrain.Statement.{statement}
 use Rattle.wave_terrain_engine.proofs.terrain.terrain.Tie as tie
 
 -- an arm of its own for each layer up to 7
-past-seven : (i : ℕ) → (((((((Unit {0} × (i ≡ 0 → ⊥)) × (i ≡ 1 → ⊥)) × (i ≡ 2 → ⊥)) × (i ≡ 3 → ⊥)) × (i ≡ 4 → ⊥)) × (i ≡ 5 → ⊥)) × (i ≡ 6 → ⊥)) × (i ≡ 7 → ⊥) → 8 ≤ i
-past-seven i r =
+past-bank : (i : ℕ) → (((((((Unit {0} × (i ≡ 0 → ⊥)) × (i ≡ 1 → ⊥)) × (i ≡ 2 → ⊥)) × (i ≡ 3 → ⊥)) × (i ≡ 4 → ⊥)) × (i ≡ 5 → ⊥)) × (i ≡ 6 → ⊥)) × (i ≡ 7 → ⊥) → mapLayer ≤ i
+past-bank i r =
     none-of-four 4 i
     (none-of-four 0 i zero-le (r .0 .0 .0 .0 .0 .0 .0 .1) (r .0 .0 .0 .0 .0 .0 .1) (r .0 .0 .0 .0 .0 .1) (r .0 .0 .0 .0 .1))
     (r .0 .0 .0 .1)
@@ -57,7 +57,7 @@ terrain-lookup-wt-requires-3 : tie.Need-terrain-lookup-wt-requires-3
 terrain-lookup-wt-requires-3 c κs = search needs
 
 terrain-lookup-requires : tie.Need-terrain-lookup-requires
-terrain-lookup-requires c κs = map-there _ _ _ (c .before .before .pre .0) (c .before .before .pre .1) (past-seven _ (c .match .rest))
+terrain-lookup-requires c κs = map-there _ _ _ (c .before .before .pre .0) (c .before .before .pre .1) (past-bank _ (c .match .rest))
 
 returns : tie.Need-returns
 unfolding terrainOf
@@ -96,7 +96,7 @@ unfolding terrainOf
 returns-9 c =
     let at-match = c .before in
     let entry = at-match .before .before in
-    let eight = map-layer (entry .args .map .now) (entry .args .terrain-index) (entry .pre .1) (past-seven _ (at-match .match .rest)) in
+    let eight = map-layer (entry .args .map .now) (entry .args .terrain-index) (entry .pre .1) (past-bank _ (at-match .match .rest)) in
     rw (eight, c .terrain-lookup .ensures)
 
 pub terrain-spec : {M : Type 1} → statement M

@@ -3,6 +3,7 @@ use mathlib.Core.Logic.{⊎-elim}
 use mathlib.Core.Bool.{Bool, true, false, cond, _||_}
 use mathlib.Core.Path.{_≡_, sym, ap, _∙_}
 use Rattle.utils.specs.Holds.{none}
+use Rattle.wavetable_engine.specs.declared.frames.Parts.{Parts}
 use Rattle.wavetable_engine.specs.Wavetable.{frameHold, holdsOf}
 use Rattle.wavetable_engine.proofs.frames.held.Statement.{statement}
 use Rattle.wavetable_engine.proofs.frames.held.Tie as tie
@@ -16,7 +17,11 @@ by-first a b r e f = rw e (f ∙ e)
 by-second : (a b r : Bool) → a ≡ false → r ≡ b → r ≡ a || b
 by-second a b r e f = rw e f
 
-any-of : (c : lts.Joined3 reads.Pre reads.Post) → c .if3 .if4 ≡ c .before .before .before .args .p .x .held || c .before .before .before .args .p .y .held || c .before .before .before .args .p .z .held || c .before .before .before .args .p .phase .held
+-- any of the four parts
+abbrev anyHeld : Parts → Bool
+anyHeld p = p .x .held || p .y .held || p .z .held || p .phase .held
+
+any-of : (c : lts.Joined3 reads.Pre reads.Post) → c .if3 .if4 ≡ anyHeld (c .before .before .before .args .p)
 any-of c =
     let p = c .before .before .before .args .p in
     let two = ⊎-elim (λ w. by-first (p .x .held) (p .y .held) _ (w .0 .taken) (w .1)) (λ w. by-second (p .x .held) (p .y .held) _ (w .0 .left) (w .1)) (c .before .before .if1 .came) in

@@ -76,8 +76,8 @@ returns c =
     let e : c .before .loop .i ≡ a .n = omega arith in (
       inv .1 .0 ∙ ap (λ (k : ℕ). stateAfter quadratureNext k (a .self)) e,
       (
-        filled-run quadratureNext quadratureOut nan _ _ _ (rw e at (inv .1 .1 .0 .filled)),
-        filled-run quadratureNext quadratureOut2 nan _ _ _ (rw e at (inv .1 .1 .1 .filled)),
+        filled-run quadratureNext quadratureOut nan _ _ _ _ (rw e at (inv .1 .1 .0)),
+        filled-run quadratureNext quadratureOut2 nan _ _ _ _ (rw e at (inv .1 .1 .1)),
       ),
     )
 
