@@ -9,7 +9,7 @@ use lib.ListN.{length, take, drop, length-drop}
 use lib.Seq.{take-take, take-nil, take-all, drop-drop}
 use Rattle.words.proofs.Places.{put-part, put-outside}
 use Rattle.score.specs.Rows.{rowWords, putRow}
-use Rattle.score.specs.Limits.{rowWithin, firstBad}
+use Rattle.score.specs.Limits.{rowWithin, firstBad, limitRefusal}
 
 pub first-bad-most : (n : ℕ) (rows : List ℕ) → firstBad n rows ≤ n
 unfolding firstBad
@@ -32,6 +32,10 @@ bad-of-take zero rows = refl
 bad-of-take (suc n) rows =
     let k : suc n * rowWords ≡ rowWords + n * rowWords = omega arith in
     rw (k, take-take rowWords (rowWords + n * rowWords) rows (omega arith), drop-of-take rowWords (n * rowWords) rows, bad-of-take n (drop rowWords rows))
+
+pub limit-of-take : (n : ℕ) (rows : List ℕ) → limitRefusal n (take (n * rowWords) rows) ≡ limitRefusal n rows
+unfolding limitRefusal
+limit-of-take n rows = rw (bad-of-take n rows)
 
 -- A row outside the limits among the first a is the first of all.
 pub bad-before : (a m : ℕ) (rows : List ℕ) → firstBad a rows < a → firstBad (a + m) rows ≡ firstBad a rows

@@ -1,8 +1,6 @@
--- `score::reader::store_rows` meets its contract: 12 before anything is written.
+-- `store_rows` tests 12 before anything is written.
 use mathlib.Core.Path.{ap, _∙_}
-use lib.ListN.{take, drop}
 use Rattle.score.specs.declared.reader.ReadAnswer.the-variants.{Read}
-use Rattle.score.specs.Text.{linesOf, rowsOf}
 use Rattle.score.specs.Reading.{outcome}
 use Rattle.score.proofs.Settling.{no-space, space, store-all}
 use borrow.Author.Needs.{needs}
@@ -13,16 +11,22 @@ div-if1 : tie.Need-div-if1
 div-if1 c = search needs
 
 returns : tie.Need-returns
-returns c = let a = c .before .before .before .args in let p = c .before .before .before .pre in no-space (a .count) (a .lines) (p .1 .0 .some) (rowsOf (take (a .count) (a .columns .now)) (linesOf (drop (a .next) (a .text .now)))) (a .rows .now) (c .if1 .taken)
+returns c = let p = c .before .before .before .pre in no-space _ _ (p .1 .0 .some-words) _ _ (c .if1 .taken)
 
 write-rows-requires : tie.Need-write-rows-requires
-write-rows-requires c κs = let a = c .before .before .before .before .args in let p = c .before .before .before .before .pre in (p .0, (p .1 .0, (p .1 .1, space (a .count) (a .lines) (p .1 .0 .some) (rowsOf (take (a .count) (a .columns .now)) (linesOf (drop (a .next) (a .text .now)))) (a .rows .now) (c .before .if1 .left))))
+write-rows-requires c κs =
+    let a = c .before .before .before .before .args in
+    let p = c .before .before .before .before .pre in
+    (p .0, (p .1 .0, (p .1 .1, space _ _ (p .1 .0 .some-words) (a .rows .now) (c .before .if1 .left))))
 
 same-length : tie.Need-same-length
 same-length c = search needs
 
 returns-2 : tie.Need-returns-2
-returns-2 c = let a = c .before .before .before .before .before .before .before .args in let p = c .before .before .before .before .before .before .before .pre in ap (outcome (Read (a .lines))) (c .before .before .write-rows .ensures) ∙ store-all (a .count) (a .lines) (p .1 .0 .some) (rowsOf (take (a .count) (a .columns .now)) (linesOf (drop (a .next) (a .text .now)))) (a .rows .now) (c .before .before .before .before .if1 .left)
+returns-2 c =
+    let p = c .before .before .before .before .before .before .before .pre in
+    let s = store-all _ _ (p .1 .0 .some-words) _ _ (c .before .before .before .before .if1 .left) in
+    ap (outcome (Read _)) (c .before .before .write-rows .ensures) ∙ s
 
 pub store-rows-spec : {M : Type 1} → statement M
 store-rows-spec = tie.close (tie.spec div-if1 returns write-rows-requires same-length returns-2)

@@ -1,0 +1,60 @@
+-- `read_lines` tests the lines, then 6 in a score, and then stores the rows.
+use mathlib.Core.Path.{refl, sym, ap, _∙_}
+use mathlib.Core.Bool.{_&&_}
+use Rattle.score.proofs.Settling.{settle-refused, settle-count, settle-stored, passes-free}
+use borrow.Author.Needs.{needs}
+use Rattle.score.proofs.reader.read_lines.Statement.{statement}
+use Rattle.score.proofs.reader.read_lines.Tie as tie
+
+test-lines-requires : tie.Need-test-lines-requires
+test-lines-requires c κs = search needs
+
+enum-known-answer : tie.Need-enum-known-answer
+enum-known-answer c = search needs
+
+enum-known-answer-2 : tie.Need-enum-known-answer-2
+enum-known-answer-2 c = search needs
+
+too-few-or-many-requires : tie.Need-too-few-or-many-requires
+too-few-or-many-requires c κs = search needs
+
+returns : tie.Need-returns
+returns c =
+    let p = c .before .before .before .before .before .before .before .before in
+    let t = sym (c .before .before .before .before .before .test-lines .ensures) ∙ c .before .before .before .answer2 .given .1 in
+    settle-count _ _ _ _ _ _ t (rw (c .before .too-few-or-many .ensures) at (c .if1 .taken))
+
+store-rows-requires : tie.Need-store-rows-requires
+store-rows-requires c κs =
+    let p = c .before .before .before .before .before .before .before .before .before .pre in
+    let t = sym (c .before .before .before .before .before .before .test-lines .ensures) ∙ c .before .before .before .before .answer2 .given .1 in
+    (p .0, (p .1 .0, passes-free _ _ _ _ _ _ t))
+
+returns-2 : tie.Need-returns-2
+returns-2 c =
+    let t = sym (c .before .before .before .test-lines .ensures) ∙ c .before .answer .given .1 in
+    settle-refused _ _ _ _ _ _ t
+
+same-length : tie.Need-same-length
+same-length c = search needs
+
+returns-3 : tie.Need-returns-3
+returns-3 c =
+    let b = c .before .before .before .before .before in
+    let t = sym (b .before .before .before .before .test-lines .ensures) ∙ b .before .before .answer2 .given .1 in
+    let i = rw (b .too-few-or-many .ensures) at (c .before .before .before .before .if1 .left) in
+    c .before .before .store-rows .ensures ∙ settle-stored _ _ _ _ _ _ t i
+
+pub read-lines-spec : {M : Type 1} → statement M
+read-lines-spec =
+    tie.close
+    (tie.spec
+    test-lines-requires
+    enum-known-answer
+    enum-known-answer-2
+    too-few-or-many-requires
+    returns
+    store-rows-requires
+    returns-2
+    same-length
+    returns-3)
