@@ -1,24 +1,24 @@
 -- What an accepted score brings to rendering. Each of its lines was tested by its limits, and the rows that are left are those of its lines.
 use mathlib.Core.Path.{_≡_, refl, sym, ap, _∙_}
-use mathlib.Core.Bool.{Bool, true, false, _||_, cond}
+use mathlib.Core.Bool.{Bool, true, false, cond}
 use mathlib.Core.List.{List, [], _∷_, _++_, append-assoc}
 use Prim.Native.Nat.{ℕ, suc, _+_, _*_}
 use native.Mathlib.Omega.{arith}
-use borrow.Author.Tests.{eqb-true, eqb-false, ltb-false, le-ltb}
-use lib.Dec.{ltb, eqb}
-use lib.ListN.{length, take, drop, length-append, length-drop, length-map}
+use borrow.Author.Tests.{eqb-true, eqb-false, le-ltb}
+use lib.Dec.{eqb}
+use lib.ListN.{length, drop, length-append, length-drop, length-map}
 use lib.Seq.{take-at, drop-at}
 use Rattle.score.specs.declared.table.Source.{Source}
-use Rattle.score.specs.declared.refusal.Refusal.{Refusal}
 use Rattle.score.specs.declared.reader.ReadAnswer.{ReadAnswer}
 use Rattle.score.specs.declared.reader.ReadAnswer.the-variants.{Read, Refused}
-use Rattle.score.specs.Numbers.{refusal, accepted, rowsNumber, limitNumber, namesNumber, spaceNumber}
-use Rattle.score.specs.Rows.{rowWords, mostRows}
+use Rattle.score.specs.Numbers.{limitNumber, namesNumber}
+use Rattle.score.specs.Rows.{rowWords}
 use Rattle.score.specs.Limits.{rowWithin, firstBad, badRefusal, limitRefusal}
 use Rattle.score.specs.Text.{Line, linesOf, firstOf, restOf, sourcesOf, sourcesBy, namesOn, holdsNames, rowOf, rowsOf}
-use Rattle.score.specs.Reading.{refusedAt, outcome, lineNumber, testLines, testText, textRows, refuse, store, settle, readText, scoreTable, readOf, Outcome, Accepted}
+use Rattle.score.specs.Reading.{refusedAt, lineNumber, testLines, testText, textRows, countNumber, settle, readText, scoreTable, readOf, Outcome, Accepted}
 use Rattle.score.proofs.Values.{value, number-by-limit}
 use Rattle.score.proofs.Storing.{same-count, not-both}
+use Rattle.score.proofs.Settling.{room, row-count, settle-refused, settle-count, settle-stored}
 
 -- ---- lines
 
@@ -86,41 +86,52 @@ module _ (lines : List Line) where
     abbrev rows : List ℕ
     rows = textRows scoreTable lines
 
-    left-good : testText scoreTable true lines ≡ Read c → eqb c 0 ≡ false → ltb mostRows c ≡ false → ltb (length lent) (rowWords * c) ≡ false
-        → Accepted c lent (rows ++ drop (rowWords * c) lent)
+    abbrev left : List ℕ
+    left = rows ++ drop (rowWords * c) lent
+
+    left-good : testText scoreTable true lines ≡ Read c → countNumber true rowWords c (length lent) ≡ 0 → Accepted c lent left
     unfolding textRows limitRefusal badRefusal
-    left-good t z m s =
+    left-good t n =
         let rest = drop (rowWords * c) lent in
         let g = text-good rest c t in
-        let space = ltb-false (length lent) (rowWords * c) s in
+        let space = room true rowWords c (length lent) n in
+        let most = row-count rowWords c (length lent) n in
         let all : c ≡ length (restOf lines) = omega (arith, g .count) in
         let none : firstBad c (rowsOf sources (restOf lines) ++ rest) ≡ c = rw (sym all) at (g .none) in
-        let nonzero = eqb-false c 0 z in
         record {
-          some = omega arith;
-          few = ltb-false mostRows c m;
+          some = most .0;
+          few = most .1;
           space = space;
           long = length-append (rowsOf sources (restOf lines)) rest ∙ omega (arith, g .long, length-drop (rowWords * c) lent);
           passes = rw (none, le-ltb c c (omega arith));
         }
 
-    -- Whatever settles the text, success is of rows that were tested.
-    settled : (r : ReadAnswer) → testText scoreTable true lines ≡ r → settle true rowWords r rows lent .answer ≡ Read c → Accepted c lent (settle true rowWords r rows lent .rows)
-    unfolding settle store
-    settled (Refused r) t e = absurd (not-both (r .number) (r .place) c e)
-    settled (Read a) t e = go (eqb a 0) (ltb mostRows a) (ltb (length lent) (rowWords * a)) refl refl refl e
-      where
-        ends : Bool → Bool → Bool → Outcome
-        ends z m s = cond (z || m) (refuse (refusal rowsNumber 0) lent) (cond s (refuse (refusal spaceNumber 0) lent) (outcome (Read a) (rows ++ drop (rowWords * a) lent)))
+  -- Whatever settles the text, success is of rows that were tested.
+  module _ (lent : List ℕ) (c : ℕ) (r : ReadAnswer) (t : testText scoreTable true lines ≡ r) where
+    abbrev settled : Outcome
+    settled = settle true rowWords r (rows lent c) lent
 
-        go : (z m s : Bool) → eqb a 0 ≡ z → ltb mostRows a ≡ m → ltb (length lent) (rowWords * a) ≡ s → ends z m s .answer ≡ Read c → Accepted c lent (ends z m s .rows)
-        go true m s p q i e = absurd (not-both rowsNumber 0 c e)
-        go false true s p q i e = absurd (not-both rowsNumber 0 c e)
-        go false false true p q i e = absurd (not-both spaceNumber 0 c e)
-        go false false false p q i e =
-            let k : a ≡ c = same-count a c e in
-            rw k (left-good (t ∙ ap Read k) (rw k at p) (rw k at q) (rw k at i))
+    settled-good : settled .answer ≡ Read c → Accepted c lent (settled .rows)
+    settled-good = go r refl
+      where
+        go : (q : ReadAnswer) → r ≡ q → settled .answer ≡ Read c → Accepted c lent (settled .rows)
+        go (Refused q) k e =
+            let s = settle-refused true rowWords (rows lent c) lent r q k in
+            absurd (not-both (q .number) (q .place) c (rw (sym s) at e))
+        go (Read a) k e = go-on (eqb number 0) refl
+          where
+            number : ℕ
+            number = countNumber true rowWords a (length lent)
+
+            go-on : (b : Bool) → eqb number 0 ≡ b → Accepted c lent (settled .rows)
+            go-on true z =
+                let s = settle-stored true rowWords (rows lent c) lent r a number k refl (eqb-true number 0 z) in
+                let m : a ≡ c = same-count a c (rw (sym s) at e) in
+                rw (sym s, m) (left-good lent c (t ∙ k ∙ ap Read m) (rw m at (eqb-true number 0 z)))
+            go-on false z =
+                let s = settle-count true rowWords (rows lent c) lent r a number k refl (eqb-false number 0 z) in
+                absurd (not-both number 0 c (rw (sym s) at e))
 
 pub accepted-passes : (text lent : List ℕ) (count : ℕ) → readOf text lent .answer ≡ Read count → Accepted count lent (readOf text lent .rows)
 unfolding readOf readText scoreTable
-accepted-passes text lent count e = settled (linesOf text) lent count (testText scoreTable true (linesOf text)) refl e
+accepted-passes text lent count e = settled-good (linesOf text) lent count (testText scoreTable true (linesOf text)) refl e

@@ -1,11 +1,11 @@
--- What a tested text comes to: the cases of `store`, `settle` and `readText`, each by the tests that lead to it.
+-- What a tested text comes to: the cases of `countNumber`, `settle` and `readText`, each by the tests that lead to it.
 use mathlib.Core.Path.{_≡_, refl, sym, ap, _∙_}
 use mathlib.Core.Bool.{Bool, true, false, cond, _&&_, _||_}
 use mathlib.Core.List.{List, [], _∷_, _++_}
 use Prim.Native.Nat.{ℕ, suc, _+_, _*_, _/_, _≤_, _<_}
 use native.Mathlib.Nat.{mul-comm, le-div-iff-mul-le, div-lt-iff-lt-mul}
 use native.Mathlib.Omega.{arith}
-use borrow.Author.Tests.{lt-ltb, le-ltb, eqb-true}
+use borrow.Author.Tests.{lt-ltb, le-ltb, ltb-false, ne-eqb, eqb-true, eqb-false}
 use lib.Dec.{eqb, ltb}
 use lib.ListN.{length, take, drop, replicate}
 use Rattle.score.specs.declared.refusal.Refusal.{Refusal}
@@ -16,7 +16,7 @@ use Rattle.score.specs.declared.reader.ReadAnswer.the-variants.{Read, Re
 use Rattle.score.specs.Numbers.{refusal, rowsNumber, namesNumber, spaceNumber}
 use Rattle.score.specs.Rows.{rowWords, mostRows}
 use Rattle.score.specs.Text.{lf, space as blank, bytes, split, Line, linesOf, firstOf, fieldsOf, Entry, sourcesOf, eachReadable, columnCount, eachOnce, holdsNames, rowsOf}
-use Rattle.score.specs.Reading.{refusedAt, outcome, lineNumber, testLines, testText, textRows, refuse, store, settle, readText, scoreTable, editTable}
+use Rattle.score.specs.Reading.{refusedAt, outcome, lineNumber, testLines, testText, textRows, refuse, countNumber, settle, readText, scoreTable, editTable}
 use Rattle.score.specs.Inner.{mostNames, tableOf}
 use Rattle.score.proofs.Cases.{both}
 use Rattle.score.proofs.Split.{reach, first-piece}
@@ -24,34 +24,54 @@ use Rattle.score.proofs.FirstLine.{first-line, open-line}
 use Rattle.score.proofs.Values.{unlimited, value}
 use Rattle.score.proofs.Storing.{not-both}
 
--- ---- 12
-module _ (words count : ℕ) (some : 0 < words) where
-  pub space : (lent : List ℕ) → count ≤ length lent / words → words * count ≤ length lent
-  space lent h = rw (mul-comm words count) (le-div-iff-mul-le some .0 h)
-
-  module _ (rows lent : List ℕ) where
-    pub no-space : length lent / words < count → refuse (refusal spaceNumber 0) lent ≡ store words count rows lent
-    unfolding store
-    no-space h = rw (lt-ltb (length lent) (words * count) (rw (mul-comm words count) (div-lt-iff-lt-mul some .0 h)))
-
-    pub store-all : count ≤ length lent / words → outcome (Read count) (rows ++ drop (words * count) lent) ≡ store words count rows lent
-    unfolding store
-    store-all h = rw (le-ltb (length lent) (words * count) (space lent h))
-
 -- ---- 6, and then 12
+module _ (score : Bool) (words count lent : ℕ) where
+  pub wrong-count : score && (eqb count 0 || ltb mostRows count) ≡ true → rowsNumber ≡ countNumber score words count lent
+  unfolding countNumber
+  wrong-count t = rw t
+
+  module _ (t : score && (eqb count 0 || ltb mostRows count) ≡ false) (some : 0 < words) where
+    pub no-space : lent / words < count → spaceNumber ≡ countNumber score words count lent
+    unfolding countNumber
+    no-space h = rw (t, lt-ltb lent (words * count) (rw (mul-comm words count) (div-lt-iff-lt-mul some .0 h)))
+
+    pub right-count : count ≤ lent / words → 0 ≡ countNumber score words count lent
+    unfolding countNumber
+    right-count h = rw (t, le-ltb lent (words * count) (rw (mul-comm words count) (le-div-iff-mul-le some .0 h)))
+
+  -- what no number refuses has room
+  pub room : countNumber score words count lent ≡ 0 → words * count ≤ lent
+  unfolding countNumber
+  room e = go (score && (eqb count 0 || ltb mostRows count)) (ltb lent (words * count)) refl e
+    where
+      go : (b c : Bool) → ltb lent (words * count) ≡ c → cond b rowsNumber (cond c spaceNumber 0) ≡ 0 → words * count ≤ lent
+      go true c l e = absurd (omega arith)
+      go false true l e = absurd (omega arith)
+      go false false l e = ltb-false lent (words * count) l
+
+-- and in a score it is 1 to 4,096 rows
+pub row-count : (words count lent : ℕ) → countNumber true words count lent ≡ 0 → (0 < count) × (count ≤ mostRows)
+unfolding countNumber
+row-count words count lent e = go (eqb count 0) (ltb mostRows count) (ltb lent (words * count)) refl refl e
+  where
+    go : (z m c : Bool) → eqb count 0 ≡ z → ltb mostRows count ≡ m → cond (z || m) rowsNumber (cond c spaceNumber 0) ≡ 0 → (0 < count) × (count ≤ mostRows)
+    go true m c p q e = absurd (omega arith)
+    go false true c p q e = absurd (omega arith)
+    go false false c p q e = let n = eqb-false count 0 p in (omega arith, ltb-false mostRows count q)
+
 module _ (score : Bool) (words : ℕ) (rows lent : List ℕ) (answer : ReadAnswer) where
   pub settle-refused : (r : Refusal) → answer ≡ Refused r → refuse r lent ≡ settle score words answer rows lent
   unfolding settle
   settle-refused r e = rw e
 
-  module _ (count : ℕ) (e : answer ≡ Read count) where
-    pub settle-count : score && (eqb count 0 || ltb mostRows count) ≡ true → refuse (refusal rowsNumber 0) lent ≡ settle score words answer rows lent
+  module _ (count number : ℕ) (e : answer ≡ Read count) (n : number ≡ countNumber score words count (length lent)) where
+    pub settle-count : (number ≡ 0 → ⊥) → refuse (refusal number 0) lent ≡ settle score words answer rows lent
     unfolding settle
-    settle-count t = rw (e, t)
+    settle-count z = rw (e, sym n, ne-eqb number 0 z)
 
-    pub settle-stored : score && (eqb count 0 || ltb mostRows count) ≡ false → store words count rows lent ≡ settle score words answer rows lent
+    pub settle-stored : number ≡ 0 → outcome (Read count) (rows ++ drop (words * count) lent) ≡ settle score words answer rows lent
     unfolding settle
-    settle-stored t = rw (e, t)
+    settle-stored z = rw (e, sym n, z)
 
 -- a text that passes with its limits passes without
 free : (n : ℕ) (sources : List Source) (line : Line) → lineNumber n sources true line ≡ 0 → lineNumber n sources false line ≡ 0

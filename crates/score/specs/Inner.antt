@@ -7,7 +7,8 @@ use lib.ListN.{length, getD, take, drop}
 use lib.Dec.{ltb, eqb}
 use Rattle.score.specs.declared.table.Source.{Source}
 use Rattle.score.specs.declared.lines.Shape.{Shape}
-use Rattle.score.specs.Text.{wordDigits, isWord, Line, linesOf, firstOf, Entry, eachReadable, holdsWords}
+use Rattle.score.specs.Text.{wordDigits, isWord, Line, linesOf, firstOf, Entry, eachReadable, holdsWords, rowsOf}
+use Rattle.score.specs.Reading.{Outcome, testLines, settle}
 
 -- The most names of a table: an edit's six.
 abbrev pub mostNames : ℕ
@@ -40,3 +41,8 @@ pub record OnLine (sources : List Source) (line : Line) : Type 0 where
   pub some : 0 < names
   pub words : holdsWords names line ≡ true
   pub readable : eachReadable names sources ≡ true
+
+-- What lines of values come to, by the sources of a row's words.
+abbrev pub readLines : Bool → Shape → List Source → List Line → List ℕ → Outcome
+readLines score shape sources lines lent =
+    settle score (shape .width) (testLines (shape .names) sources score 0 lines) (rowsOf sources lines) lent

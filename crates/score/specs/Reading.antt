@@ -56,18 +56,20 @@ outcome answer rows = record { answer = answer; rows = rows }
 abbrev pub refuse : Refusal → List ℕ → Outcome
 refuse r lent = outcome (Refused r) lent
 
--- 12, and then rows of so many words: "Lent row words past the score keep what they had."
-unfoldable pub store : ℕ → ℕ → List ℕ → List ℕ → Outcome
-store words count rows lent =
-    cond (ltb (length lent) (words * count)) (refuse (refusal spaceNumber 0) lent) (outcome (Read count) (rows ++ drop (words * count) lent))
+-- "then 6; then 12": the number that refuses so many rows of so many words, where `lent` words are lent, 0 if none does. 6 is tested in a
+-- score alone.
+unfoldable pub countNumber : Bool → ℕ → ℕ → ℕ → ℕ
+countNumber score words count lent =
+    cond (score && (eqb count 0 || ltb mostRows count)) rowsNumber (cond (ltb lent (words * count)) spaceNumber 0)
 
--- "The reader tests 10; then line after line 11 before 9; then 6; then 12." 6 is tested in a score alone.
+-- What is left once the lines are tested: "Lent row words past the score keep what they had."
 unfoldable pub settle : Bool → ℕ → ReadAnswer → List ℕ → List ℕ → Outcome
 settle score words (Refused r) rows lent = refuse r lent
 settle score words (Read count) rows lent =
-    cond (score && (eqb count 0 || ltb mostRows count)) (refuse (refusal rowsNumber 0) lent) (store words count rows lent)
+    let number = countNumber score words count (length lent) in
+    cond (eqb number 0) (outcome (Read count) (rows ++ drop (words * count) lent)) (refuse (refusal number 0) lent)
 
--- Reading a text, as a score or not.
+-- "The reader tests 10; then line after line 11 before 9; then 6; then 12": reading a text, as a score or not.
 unfoldable pub readText : Bool → List Entry → List ℕ → List ℕ → Outcome
 readText score table text lent = settle score (length table) (testText table score (linesOf text)) (textRows table (linesOf text)) lent
 

@@ -17,16 +17,15 @@ use crate::table::Source;
 use crate::table::each_once;
 use crate::table::sources_of;
 ghost use mathlib.Core.Path.{_≡_};
-ghost use mathlib.Core.Bool.{true, false, _||_};
+ghost use mathlib.Core.Bool.{true, false};
 ghost use mathlib.Core.List.{_++_};
 ghost use Prim.Native.Nat.{_*_, _≤_, _<_};
-ghost use lib.Dec.{eqb, ltb};
 ghost use lib.ListN.{length, take, drop};
 ghost use Rattle.score.specs.declared.reader.ReadAnswer.the-variants.{Read};
-ghost use Rattle.score.specs.Rows.{rowWords, mostRows};
+ghost use Rattle.score.specs.Rows.{rowWords};
 ghost use Rattle.score.specs.Text.{linesOf, fieldsOf, rowsOf};
-ghost use Rattle.score.specs.Reading.{testLines, store, settle, outcome, readText, readOf, readEditsOf};
-ghost use Rattle.score.specs.Inner.{mostNames, tableOf, Sourced};
+ghost use Rattle.score.specs.Reading.{testLines, countNumber, outcome, readText, readOf, readEditsOf};
+ghost use Rattle.score.specs.Inner.{mostNames, tableOf, Sourced, readLines};
 
 // What reading a text gives.
 pub enum ReadAnswer {
@@ -94,36 +93,18 @@ fn write_rows(
     }
 }
 
-// The rows of `lines` lines from `next` on, if there are words enough for them.
-fn store_rows(
-    text: &[u8],
-    next: usize,
-    sources: [Source; MOST_NAMES],
-    shape: Shape,
-    lines: usize,
-    rows: &mut [u32],
-) -> ReadAnswer
-    requires { ⌜ (next ≤ length (now text)) × (shape .width ≤ mostNames) ⌝ }
-    requires { ⌜ Sourced shape sources ⌝ }
-    requires { ⌜ testLines (shape .names) (take (shape .width) sources) false 0 (linesOf (drop next (now text))) ≡ Read lines ⌝ }
-    ensures { λ r. ⌜ outcome r (now (rows .exit)) ≡ store (shape .width) lines (rowsOf (take (shape .width) sources) (linesOf (drop next (now (text .entry))))) (now (rows .entry)) ⌝ }
+// The number that refuses so many rows of so many words, where `lent` words are lent, 0 if none does.
+fn count_number(score: bool, words: usize, count: usize, lent: usize) -> u32
+    requires { ⌜ 0 < words ⌝ }
+    ensures { λ r. ⌜ r ≡ countNumber score words count lent ⌝ }
 {
-    let width = shape.width;
-    if rows.len() / width < lines {
-        return ReadAnswer::Refused(Refusal {
-            number: SPACE,
-            place: 0,
-        });
+    if score & ((count == 0) | (count > MOST_ROWS)) {
+        return ROWS;
     }
-    write_rows(text, next, sources, shape, lines, rows);
-    ReadAnswer::Read(lines)
-}
-
-// Whether 6 refuses so many rows.
-fn too_few_or_many(rows: usize) -> bool
-    ensures { λ r. ⌜ r ≡ eqb rows 0 || ltb mostRows rows ⌝ }
-{
-    (rows == 0) | (rows > MOST_ROWS)
+    if lent / words < count {
+        return SPACE;
+    }
+    0
 }
 
 // The lines of values from `next` on: tested, and then stored.
@@ -138,19 +119,18 @@ fn read_lines(
     requires { ⌜ (next ≤ length (now text)) × (shape .width ≤ mostNames) ⌝ }
     requires { ⌜ Sourced shape sources ⌝ }
     requires { ⌜ (score ≡ true → shape .width ≡ rowWords) ⌝ }
-    ensures { λ r. ⌜ outcome r (now (rows .exit)) ≡ settle score (shape .width) (testLines (shape .names) (take (shape .width) sources) score 0 (linesOf (drop next (now (text .entry))))) (rowsOf (take (shape .width) sources) (linesOf (drop next (now (text .entry))))) (now (rows .entry)) ⌝ }
+    ensures { λ r. ⌜ outcome r (now (rows .exit)) ≡ readLines score shape (take (shape .width) sources) (linesOf (drop next (now (text .entry)))) (now (rows .entry)) ⌝ }
 {
     let answer = test_lines(text, next, sources, shape, score);
     match answer {
         ReadAnswer::Refused(r) => ReadAnswer::Refused(r),
         ReadAnswer::Read(lines) => {
-            if score & too_few_or_many(lines) {
-                return ReadAnswer::Refused(Refusal {
-                    number: ROWS,
-                    place: 0,
-                });
+            let number = count_number(score, shape.width, lines, rows.len());
+            if number != 0 {
+                return ReadAnswer::Refused(Refusal { number, place: 0 });
             }
-            store_rows(text, next, sources, shape, lines, rows)
+            write_rows(text, next, sources, shape, lines, rows);
+            ReadAnswer::Read(lines)
         }
     }
 }

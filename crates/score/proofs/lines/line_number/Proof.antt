@@ -1,12 +1,6 @@
 -- `line_number` tests 11 and then 9. In a score the first sources are as many as a row has words.
-use mathlib.Core.Path.{sym, ap, _∙_}
-use mathlib.Core.Bool.{cond}
+use mathlib.Core.Path.{sym, _∙_}
 use borrow.Author.Tests.{not-true, not-false}
-use lib.ListN.{take}
-use Rattle.score.specs.Limits.{rowWithin}
-use Rattle.score.specs.Numbers.{limitNumber}
-use Rattle.score.specs.Text.{rowOf}
-use Rattle.score.specs.Inner.{lineAt}
 use Rattle.score.proofs.Values.{no-value, unlimited, number-by-limit}
 use borrow.Author.Needs.{needs}
 use Rattle.score.proofs.lines.line_number.Statement.{statement}

@@ -1,7 +1,7 @@
 -- `write_row` stores word after word: those stored and those of the sources from `k` on are the row.
 use Prim.Native.Nat.{_-_, _≤_, _<_}
 use native.Mathlib.Omega.{arith}
-use mathlib.Core.Path.{_≡_, refl, sym, _∙_}
+use mathlib.Core.Path.{_≡_, refl, sym}
 use lib.ListN.{length, take, length-set}
 use lib.Seq.{length-take-le}
 use Rattle.score.specs.Inner.{lineAt}

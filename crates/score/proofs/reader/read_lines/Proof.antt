@@ -1,7 +1,8 @@
--- `read_lines` tests the lines, then 6 in a score, and then stores the rows.
-use mathlib.Core.Path.{refl, sym, ap, _∙_}
-use mathlib.Core.Bool.{_&&_}
-use Rattle.score.proofs.Settling.{settle-refused, settle-count, settle-stored, passes-free}
+-- `read_lines` tests the lines and their number, and then stores the rows.
+use mathlib.Core.Path.{sym, ap, _∙_}
+use Rattle.score.specs.declared.reader.ReadAnswer.the-variants.{Read}
+use Rattle.score.specs.Reading.{outcome}
+use Rattle.score.proofs.Settling.{room, settle-refused, settle-count, settle-stored, passes-free}
 use borrow.Author.Needs.{needs}
 use Rattle.score.proofs.reader.read_lines.Statement.{statement}
 use Rattle.score.proofs.reader.read_lines.Tie as tie
@@ -15,20 +16,20 @@ enum-known-answer c = search needs
 enum-known-answer-2 : tie.Need-enum-known-answer-2
 enum-known-answer-2 c = search needs
 
-too-few-or-many-requires : tie.Need-too-few-or-many-requires
-too-few-or-many-requires c κs = search needs
+count-number-requires : tie.Need-count-number-requires
+count-number-requires c κs = search needs
 
 returns : tie.Need-returns
 returns c =
-    let p = c .before .before .before .before .before .before .before .before in
     let t = sym (c .before .before .before .before .before .test-lines .ensures) ∙ c .before .before .before .answer2 .given .1 in
-    settle-count _ _ _ _ _ _ t (rw (c .before .too-few-or-many .ensures) at (c .if1 .taken))
+    settle-count _ _ _ _ _ _ _ t (c .before .count-number .ensures) (c .if1 .taken)
 
-store-rows-requires : tie.Need-store-rows-requires
-store-rows-requires c κs =
+write-rows-requires : tie.Need-write-rows-requires
+write-rows-requires c κs =
     let p = c .before .before .before .before .before .before .before .before .before .pre in
     let t = sym (c .before .before .before .before .before .before .test-lines .ensures) ∙ c .before .before .before .before .answer2 .given .1 in
-    (p .0, (p .1 .0, passes-free _ _ _ _ _ _ t))
+    let n = sym (c .before .before .count-number .ensures) ∙ c .before .if1 .left in
+    (p .0, (p .1 .0, (passes-free _ _ _ _ _ _ t, room _ _ _ _ n)))
 
 returns-2 : tie.Need-returns-2
 returns-2 c =
@@ -42,8 +43,8 @@ returns-3 : tie.Need-returns-3
 returns-3 c =
     let b = c .before .before .before .before .before in
     let t = sym (b .before .before .before .before .test-lines .ensures) ∙ b .before .before .answer2 .given .1 in
-    let i = rw (b .too-few-or-many .ensures) at (c .before .before .before .before .if1 .left) in
-    c .before .before .store-rows .ensures ∙ settle-stored _ _ _ _ _ _ t i
+    let stored = settle-stored _ _ _ _ _ _ _ t (b .count-number .ensures) (c .before .before .before .before .if1 .left) in
+    ap (outcome (Read _)) (c .before .before .write-rows .ensures) ∙ stored
 
 pub read-lines-spec : {M : Type 1} → statement M
 read-lines-spec =
@@ -52,9 +53,9 @@ read-lines-spec =
     test-lines-requires
     enum-known-answer
     enum-known-answer-2
-    too-few-or-many-requires
+    count-number-requires
     returns
-    store-rows-requires
+    write-rows-requires
     returns-2
     same-length
     returns-3)

@@ -1,6 +1,5 @@
 -- `read_text` tests the line that the first LF ends against the table, and then reads the lines after it.
 use mathlib.Core.Path.{_≡_, sym, _∙_}
-use Prim.Native.Nat.{_≤_}
 use native.Mathlib.Omega.{arith}
 use borrow.Author.Tests.{not-true, not-false}
 use lib.ListN.{length}

@@ -1,7 +1,6 @@
 -- `sources_of` looks up name after name: the sources stored and those of the names from `from` on are all.
-use Prim.Native.Nat.{_+_, _-_, _≤_, _<_}
+use Prim.Native.Nat.{_+_, _-_}
 use native.Mathlib.Omega.{arith}
-use mathlib.Core.Path.{_≡_, sym, _∙_}
 use lib.ListN.{length}
 use lib.Seq.{drop-cons}
 use Rattle.score.specs.declared.table.Source.the-variants.{Column}
