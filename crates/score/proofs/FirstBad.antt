@@ -9,9 +9,9 @@ use lib.ListN.{length, take, drop, length-drop}
 use lib.Seq.{take-take, take-nil, take-all, drop-drop}
 use Rattle.words.proofs.Places.{put-part, put-outside}
 use Rattle.score.specs.Rows.{rowWords, putRow}
-use Rattle.score.specs.Limits.{rowWithin, firstBad}
+use Rattle.score.specs.Limits.{rowWithin, firstBad, limitRefusal}
 
-pub first-bad-most : (n : ℕ) (rows : List ℕ) → firstBad n rows ≤ n
+first-bad-most : (n : ℕ) (rows : List ℕ) → firstBad n rows ≤ n
 unfolding firstBad
 first-bad-most zero rows = zero-le
 first-bad-most (suc n) rows = go (rowWithin (take rowWords rows)) (first-bad-most n (drop rowWords rows))
@@ -26,15 +26,19 @@ drop-of-take (suc n) k [] = let q : suc n + k ≡ suc (n + k) = omega arith in r
 drop-of-take (suc n) k (x ∷ l) = let q : suc n + k ≡ suc (n + k) = omega arith in rw q (drop-of-take n k l)
 
 -- Only the words of those rows count.
-pub bad-of-take : (n : ℕ) (rows : List ℕ) → firstBad n (take (n * rowWords) rows) ≡ firstBad n rows
+bad-of-take : (n : ℕ) (rows : List ℕ) → firstBad n (take (n * rowWords) rows) ≡ firstBad n rows
 unfolding firstBad
 bad-of-take zero rows = refl
 bad-of-take (suc n) rows =
     let k : suc n * rowWords ≡ rowWords + n * rowWords = omega arith in
     rw (k, take-take rowWords (rowWords + n * rowWords) rows (omega arith), drop-of-take rowWords (n * rowWords) rows, bad-of-take n (drop rowWords rows))
 
+pub limit-of-take : (n : ℕ) (rows : List ℕ) → limitRefusal n (take (n * rowWords) rows) ≡ limitRefusal n rows
+unfolding limitRefusal
+limit-of-take n rows = rw (bad-of-take n rows)
+
 -- A row outside the limits among the first a is the first of all.
-pub bad-before : (a m : ℕ) (rows : List ℕ) → firstBad a rows < a → firstBad (a + m) rows ≡ firstBad a rows
+bad-before : (a m : ℕ) (rows : List ℕ) → firstBad a rows < a → firstBad (a + m) rows ≡ firstBad a rows
 unfolding firstBad
 bad-before zero m rows h = absurd (omega arith)
 bad-before (suc a) m rows h =
@@ -49,7 +53,7 @@ bad-before (suc a) m rows h =
     go false f h = refl
 
 -- Where the first a rows are within the limits, the search goes on after them.
-pub bad-after : (a m : ℕ) (rows : List ℕ) → a ≤ firstBad a rows → firstBad (a + m) rows ≡ a + firstBad m (drop (a * rowWords) rows)
+bad-after : (a m : ℕ) (rows : List ℕ) → a ≤ firstBad a rows → firstBad (a + m) rows ≡ a + firstBad m (drop (a * rowWords) rows)
 unfolding firstBad
 bad-after zero m rows h = let q : 0 + m ≡ m = omega arith in rw q (omega arith)
 bad-after (suc a) m rows h =

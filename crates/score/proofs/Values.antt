@@ -1,4 +1,4 @@
--- The rows of lines of values: each word is read where its column stands, and each line where the one before it ends.
+-- The rows of lines of values: each word is read at its source, and each line where the one before it ends.
 use mathlib.Core.Path.{_≡_, refl, sym, ap, _∙_}
 use mathlib.Core.Bool.{Bool, true, false, cond}
 use mathlib.Core.List.{List, [], _∷_, _++_, append-nil}
@@ -7,14 +7,17 @@ use native.Mathlib.Numerals.{add-one}
 use native.Mathlib.Omega.{arith}
 use borrow.Author.Tests.{ltb-true, ne-eqb}
 use lib.Dec.{ltb, eqb}
-use lib.ListN.{length, getD, take, drop, set, length-set, length-drop, drop-of-length-le}
-use lib.Seq.{drop-cons, drop-drop, getD-take, length-take-le, take-suc-set, append-snoc, take-all}
-use Rattle.score.specs.Text.{Line, contents, linesOf, firstOf, restOf, fieldsOf, wordDigits, isWord, wordOf, eachBelow, holdsWords, rowOf}
+use lib.ListN.{length, take, drop, set, length-set, length-drop, drop-of-length-le}
+use lib.Seq.{drop-drop, take-suc-set, append-snoc, take-all}
+use Rattle.score.specs.declared.table.Source.{Source}
+use Rattle.score.specs.declared.table.Source.the-variants.{Column}
+use Rattle.score.specs.declared.reader.ReadAnswer.{ReadAnswer}
+use Rattle.score.specs.Text.{Line, linesOf, firstOf, restOf, wordDigits, isWord, wordOf, readable, eachReadable, holdsWords, wordFrom, rowOf}
 use Rattle.score.specs.Limits.{rowWithin}
 use Rattle.score.specs.declared.reader.ReadAnswer.the-variants.{Read}
 use Rattle.score.specs.Numbers.{limitNumber, valueNumber}
 use Rattle.score.specs.Reading.{refusedAt, lineNumber, testLines}
-use Rattle.score.specs.Inner.{lineAt, Columns}
+use Rattle.score.specs.Inner.{lineAt, OnLine}
 use Rattle.score.proofs.Cases.{both}
 use Rattle.score.proofs.FirstLine.{some-line, no-line}
 use Rattle.score.proofs.Digits.{word-fits}
@@ -24,115 +27,125 @@ right-line : (count : ℕ) (text : List ℕ) → 0 < count → holdsWords count 
 right-line zero text h e = absurd (omega arith)
 right-line (suc count) text h e = right count text e
 
-below-at : (top : ℕ) (l : List ℕ) (k : ℕ) → eachBelow top l ≡ true → k < length l → getD l k 0 < top
-unfolding eachBelow
-below-at top [] k e h = absurd (omega arith)
-below-at top (x ∷ l) zero e h = ltb-true x top (both (ltb x top) (eachBelow top l) e .0)
-below-at top (x ∷ l) (suc k) e h = below-at top l k (both (ltb x top) (eachBelow top l) e .1) (omega arith)
+readable-at : (n : ℕ) (sources : List Source) (k : ℕ) (source : Source) → eachReadable n sources ≡ true → drop k sources ≡ source ∷ drop (suc k) sources → readable n source ≡ true
+unfolding eachReadable
+readable-at n [] zero source e d = let z : _≡_ {A = ℕ} 0 1 = cc in absurd (omega arith)
+readable-at n [] (suc k) source e d = let z : _≡_ {A = ℕ} 0 1 = cc in absurd (omega arith)
+readable-at n (s ∷ sources) zero source e d = let q : s ≡ source = cc in rw (sym q) (both (readable n s) (eachReadable n sources) e .0)
+readable-at n (s ∷ sources) (suc k) source e d = readable-at n sources k source (both (readable n s) (eachReadable n sources) e .1) d
+
+-- a line that has some sources has each of them
+pub on-line-at : (sources : List Source) (line : Line) (k : ℕ) (source : Source) → OnLine sources line → drop k sources ≡ source ∷ drop (suc k) sources → OnLine (source ∷ []) line
+unfolding eachReadable
+on-line-at sources line k source o d =
+    record { names = o .names; some = o .some; words = o .words; readable = rw (readable-at (o .names) sources k source (o .readable) d) }
 
 -- ---- a word of a row
-module _ (text : List ℕ) (from : ℕ) (columns : List ℕ) (count : ℕ) (r : Columns columns count) (w : holdsWords count (lineAt text from) ≡ true) (k : ℕ) (h : k < count) where
-  column : getD columns k 0 < count
-  column =
-      let l : k < length (take count columns) = omega (arith, length-take-le count columns (r .enough)) in
-      omega (arith, getD-take count columns k 0 h, below-at count (take count columns) k (r .below) l)
+module _ (text : List ℕ) (from column : ℕ) (o : OnLine (Column column ∷ []) (lineAt text from)) where
+  column-inside : column < o .names
+  unfolding eachReadable
+  column-inside = ltb-true column (o .names) (both (ltb column (o .names)) true (o .readable) .0)
 
-  line : Right count (drop from text)
-  line = right-line count (drop from text) (r .some) w
+  line : Right (o .names) (drop from text)
+  line = right-line (o .names) (drop from text) (o .some) (o .words)
 
-  place : drop (getD columns k 0 * fieldBytes) (drop from text) ≡ drop (from + getD columns k 0 * fieldBytes) text
-  place = drop-drop (getD columns k 0 * fieldBytes) from text
+  place : drop (column * fieldBytes) (drop from text) ≡ drop (from + column * fieldBytes) text
+  place = drop-drop (column * fieldBytes) from text
 
-  pub column-word : isWord (take wordDigits (drop (from + getD columns k 0 * fieldBytes) text)) ≡ true
-  column-word = ap (λ (l : List ℕ). isWord (take wordDigits l)) (sym place) ∙ line .word (getD columns k 0) column
+  pub column-word : isWord (take wordDigits (drop (from + column * fieldBytes) text)) ≡ true
+  column-word = ap (λ (l : List ℕ). isWord (take wordDigits l)) (sym place) ∙ line .word column column-inside
 
-  pub column-fits : from + getD columns k 0 * fieldBytes + wordDigits ≤ length text
-  column-fits = word-fits text (from + getD columns k 0 * fieldBytes) column-word
+  pub column-fits : from + column * fieldBytes + wordDigits ≤ length text
+  column-fits = word-fits text (from + column * fieldBytes) column-word
 
-  pub column-value : wordOf (take wordDigits (drop (from + getD columns k 0 * fieldBytes) text)) ≡ wordOf (getD (fieldsOf (contents (lineAt text from))) (getD columns k 0) [])
-  column-value = ap wordOf (ap (take wordDigits) (sym place) ∙ sym (line .field (getD columns k 0) column))
+  pub column-value : wordOf (take wordDigits (drop (from + column * fieldBytes) text)) ≡ wordFrom (lineAt text from) (Column column)
+  column-value = ap wordOf (ap (take wordDigits) (sym place) ∙ sym (line .field column column-inside))
 
 -- ---- a row, word after word
-pub record Written (columns : List ℕ) (line : Line) (count : ℕ) (row : List ℕ) (k : ℕ) : Type 0 where
-  pub inside : k ≤ count
-  pub long : length row ≡ count
-  pub stored : take k row ++ rowOf (drop k (take count columns)) line ≡ rowOf (take count columns) line
+pub record Written (sources : List Source) (line : Line) (row : List ℕ) (k : ℕ) : Type 0 where
+  pub inside : k ≤ length sources
+  pub long : length row ≡ length sources
+  pub stored : take k row ++ rowOf (drop k sources) line ≡ rowOf sources line
 
-module _ (columns : List ℕ) (line : Line) (count : ℕ) (enough : count ≤ length columns) (row : List ℕ) where
-  pub writes : length row ≡ count → Written columns line count row 0
+module _ (sources : List Source) (line : Line) (row : List ℕ) where
+  pub writes : length row ≡ length sources → Written sources line row 0
   writes l = record { inside = omega arith; long = l; stored = refl }
 
-  pub writes-on : (k word : ℕ) → Written columns line count row k → k < count → word ≡ wordOf (getD (fieldsOf (contents line)) (getD columns k 0) [])
-      → Written columns line count (set row k word) (k + 1)
+  pub writes-on : (k word : ℕ) (source : Source) → Written sources line row k → k < length sources → drop k sources ≡ source ∷ drop (suc k) sources
+      → word ≡ wordFrom line source → Written sources line (set row k word) (k + 1)
   unfolding rowOf
-  writes-on k word w h e =
-      let n = length-take-le count columns enough in
-      let d = drop-cons (take count columns) k 0 (omega arith) in
-      let s = rw (d, getD-take count columns k 0 h) at (w .stored) in
+  writes-on k word source w h d e =
+      let s = rw d at (w .stored) in
       record {
         inside = omega arith;
         long = length-set row k word ∙ w .long;
         stored = rw (add-one, take-suc-set row k word (omega (arith, w .long)), append-snoc, e) s;
       }
 
-  pub written : (k : ℕ) → Written columns line count row k → count ≤ k → row ≡ rowOf (take count columns) line
+  pub written : (k : ℕ) → Written sources line row k → length sources ≤ k → row ≡ rowOf sources line
   unfolding rowOf
   written k w h =
-      let n = length-take-le count columns enough in
-      let d = drop-of-length-le (take count columns) {i = k} (omega arith) in
+      let d = drop-of-length-le sources h in
       sym (take-all k row (omega (arith, w .long))) ∙ rw (d, append-nil) at (w .stored)
 
 -- ---- the number of a line
-module _ (count : ℕ) (columns : List ℕ) (line : Line) where
-  pub no-value : (limited : Bool) → holdsWords count line ≡ false → lineNumber count columns limited line ≡ valueNumber
+module _ (n : ℕ) (sources : List Source) (line : Line) where
+  pub no-value : (score : Bool) → holdsWords n line ≡ false → lineNumber n sources score line ≡ valueNumber
   unfolding lineNumber
-  no-value limited e = rw e
+  no-value score e = rw e
 
-  pub unlimited : holdsWords count line ≡ true → (limited : Bool) → limited ≡ false → lineNumber count columns limited line ≡ 0
+  pub unlimited : holdsWords n line ≡ true → (score : Bool) → score ≡ false → lineNumber n sources score line ≡ 0
   unfolding lineNumber
-  unlimited e limited l = rw (e, l)
+  unlimited e score l = rw (e, l)
 
-  pub number-by-limit : holdsWords count line ≡ true → (limited : Bool) → limited ≡ true → lineNumber count columns limited line ≡ cond (rowWithin (rowOf columns line)) 0 limitNumber
+  pub number-by-limit : holdsWords n line ≡ true → (score : Bool) → score ≡ true → lineNumber n sources score line ≡ cond (rowWithin (rowOf sources line)) 0 limitNumber
   unfolding lineNumber
-  number-by-limit e limited l = rw (e, l)
+  number-by-limit e score l = rw (e, l)
 
-  pub value : (limited : Bool) → lineNumber count columns limited line ≡ 0 → holdsWords count line ≡ true
-  value limited e = go (holdsWords count line) refl
+  pub value : (score : Bool) → lineNumber n sources score line ≡ 0 → holdsWords n line ≡ true
+  value score e = go (holdsWords n line) refl
     where
-      go : (b : Bool) → holdsWords count line ≡ b → b ≡ true
+      go : (b : Bool) → holdsWords n line ≡ b → b ≡ true
       go true h = refl
-      go false h = let n = sym (no-value limited h) ∙ e in absurd (omega arith)
+      go false h = let z = sym (no-value score h) ∙ e in absurd (omega arith)
 
 -- ---- lines, one after the other
-pub record Tested (count : ℕ) (columns : List ℕ) (limited : Bool) (text : List ℕ) (next from at : ℕ) : Type 0 where
-  pub inside : from ≤ length text
-  pub counted : at ≤ from
-  pub left : testLines count columns limited 0 (linesOf (drop next text)) ≡ testLines count columns limited at (linesOf (drop from text))
+module _ (n : ℕ) (sources : List Source) (score : Bool) (text : List ℕ) where
+  -- What the lines from `from` on come to, the first of them number `at`, and the number of the line there.
+  abbrev pub tested-from : ℕ → ℕ → ReadAnswer
+  tested-from from at = testLines n sources score at (linesOf (drop from text))
 
-module _ (count : ℕ) (columns : List ℕ) (limited : Bool) (text : List ℕ) (from at : ℕ) where
-  pub first-tested : from < length text → testLines count columns limited at (linesOf (drop from text))
-      ≡ cond (eqb (lineNumber count columns limited (lineAt text from)) 0) (testLines count columns limited (suc at) (restOf (linesOf (drop from text)))) (refusedAt (lineNumber count columns limited (lineAt text from)) at)
-  unfolding testLines
-  first-tested h = ap (testLines count columns limited at) (some-line (drop from text) (omega (arith, length-drop from text)))
+  abbrev pub number-at : ℕ → ℕ
+  number-at from = lineNumber n sources score (lineAt text from)
 
-  pub none-left : length text ≤ from → testLines count columns limited at (linesOf (drop from text)) ≡ Read at
-  unfolding testLines
-  none-left h = rw (drop-of-length-le text h, no-line)
+  pub record Tested (next from at : ℕ) : Type 0 where
+    pub inside : from ≤ length text
+    pub counted : at ≤ from
+    pub left : tested-from next 0 ≡ tested-from from at
 
-  pub line-refused : from < length text → (lineNumber count columns limited (lineAt text from) ≡ 0 → ⊥)
-      → testLines count columns limited at (linesOf (drop from text)) ≡ refusedAt (lineNumber count columns limited (lineAt text from)) at
-  line-refused h n = first-tested h ∙ rw (ne-eqb (lineNumber count columns limited (lineAt text from)) 0 n)
+  module _ (from at : ℕ) where
+    pub none-left : length text ≤ from → tested-from from at ≡ Read at
+    unfolding testLines
+    none-left h = rw (drop-of-length-le text h, no-line)
 
-  module _ (some : 0 < count) (n : lineNumber count columns limited (lineAt text from) ≡ 0) where
-    line-right : Right count (drop from text)
-    line-right = right-line count (drop from text) some (value count columns (lineAt text from) limited n)
+    module _ (h : from < length text) where
+      pub first-tested : tested-from from at
+          ≡ cond (eqb (number-at from) 0) (testLines n sources score (suc at) (restOf (linesOf (drop from text)))) (refusedAt (number-at from) at)
+      unfolding testLines
+      first-tested = ap (testLines n sources score at) (some-line (drop from text) (omega (arith, length-drop from text)))
 
-    pub next-line : restOf (linesOf (drop from text)) ≡ linesOf (drop (from + count * fieldBytes) text)
-    next-line = line-right .rest ∙ ap linesOf (drop-drop (count * fieldBytes) from text)
+      pub line-refused : (number-at from ≡ 0 → ⊥) → tested-from from at ≡ refusedAt (number-at from) at
+      line-refused z = first-tested ∙ rw (ne-eqb (number-at from) 0 z)
 
-    pub line-fits : from ≤ length text → from + count * fieldBytes ≤ length text
+  module _ (from : ℕ) (some : 0 < n) (z : number-at from ≡ 0) where
+    line-right : Right n (drop from text)
+    line-right = right-line n (drop from text) some (value n sources (lineAt text from) score z)
+
+    pub next-line : restOf (linesOf (drop from text)) ≡ linesOf (drop (from + n * fieldBytes) text)
+    next-line = line-right .rest ∙ ap linesOf (drop-drop (n * fieldBytes) from text)
+
+    pub line-fits : from ≤ length text → from + n * fieldBytes ≤ length text
     line-fits i = omega (arith, line-right .fits, length-drop from text)
 
-    pub line-passes : from < length text
-        → testLines count columns limited at (linesOf (drop from text)) ≡ testLines count columns limited (at + 1) (linesOf (drop (from + count * fieldBytes) text))
-    line-passes h = first-tested h ∙ rw (n, next-line, add-one)
+    pub line-passes : (at : ℕ) → from < length text → tested-from from at ≡ tested-from (from + n * fieldBytes) (at + 1)
+    line-passes at h = first-tested from at h ∙ rw (z, next-line, add-one)

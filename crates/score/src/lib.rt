@@ -1,9 +1,9 @@
 // The score side's lowest layer: rows and their limits, the numbers of all refusals, and the reader of score and edits texts.
-mod header;
 pub mod limits;
 mod lines;
 mod pieces;
 pub mod reader;
 pub mod refusal;
 pub mod rows;
+mod table;
 mod word;
