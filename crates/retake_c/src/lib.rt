@@ -58,7 +58,9 @@ pub extern "C" fn retake_read_score(
     first: &mut u64,
     second: &mut u64,
 ) -> u32
-    ensures { λ r. ⌜ readBack (values r (now (first .exit)) (now (second .exit))) (now (rows .exit)) ≡ ofReading (readOf (now (text .entry)) (now (rows .entry))) ⌝ }
+    ensures { λ r. ⌜
+        readBack (values r (now (first .exit)) (now (second .exit))) (now (rows .exit))
+        ≡ ofReading (readOf (now (text .entry)) (now (rows .entry))) ⌝ }
 {
     let answer = score::reader::read(text, rows);
     let v = read_values(answer);
@@ -82,7 +84,11 @@ pub extern "C" fn retake_render(
     first: &mut u64,
     second: &mut u64,
 ) -> u32
-    ensures { λ r. ⌜ called (values r (now (first .exit)) (now (second .exit))) (now (rows .entry)) (lent (now (out .exit)) (now (aux .exit)) (now (kept .exit))) ≡ ofCall (renderOf (settings instrument rate frames (now (bank .entry)) (now (map .entry))) (now (rows .entry)) (lent (now (out .entry)) (now (aux .entry)) (now (kept .entry)))) ⌝ }
+    ensures { λ r. ⌜
+        called (values r (now (first .exit)) (now (second .exit))) (now (rows .entry))
+        (lent (now (out .exit)) (now (aux .exit)) (now (kept .exit)))
+        ≡ ofCall (renderOf (settings instrument rate frames (now (bank .entry)) (now (map .entry))) (now (rows .entry))
+        (lent (now (out .entry)) (now (aux .entry)) (now (kept .entry)))) ⌝ }
 {
     let answer = take::render(
         instrument,
@@ -122,7 +128,11 @@ pub extern "C" fn retake_edit(
     first: &mut u64,
     second: &mut u64,
 ) -> u32
-    ensures { λ r. ⌜ called (values r (now (first .exit)) (now (second .exit))) (now (rows .exit)) (lent (now (out .exit)) (now (aux .exit)) (now (kept .exit))) ≡ ofCall (editOf (settings instrument rate frames (now (bank .entry)) (now (map .entry))) (now (rows .entry)) position (note ∷ timbre ∷ morph ∷ harmonics ∷ restart ∷ []) (lent (now (out .entry)) (now (aux .entry)) (now (kept .entry)))) ⌝ }
+    ensures { λ r. ⌜
+        called (values r (now (first .exit)) (now (second .exit))) (now (rows .exit))
+        (lent (now (out .exit)) (now (aux .exit)) (now (kept .exit)))
+        ≡ ofCall (editOf (settings instrument rate frames (now (bank .entry)) (now (map .entry))) (now (rows .entry)) position
+        (note ∷ timbre ∷ morph ∷ harmonics ∷ restart ∷ []) (lent (now (out .entry)) (now (aux .entry)) (now (kept .entry)))) ⌝ }
 {
     let row = [note, timbre, morph, harmonics, restart];
     let answer = take::edit(
