@@ -2,6 +2,8 @@
 
 mod common;
 
+use std::ptr::{null, null_mut};
+
 use common::{ROW, Series, bank, map, setup};
 use wohketa_retake::{
     BANK, Column, Instrument, KEPT_WORDS, Reason, Refusal, Row, Setup, Take, edit, read_score, render, sys,
@@ -102,41 +104,23 @@ fn refusals_have_their_reason_and_place_and_change_nothing() {
     assert_eq!(take, junk(3));
 }
 
-/// The numbers that no safe call can bring about.
+/// The numbers that no safe call can bring about; every buffer of length 0 is null.
 #[test]
-fn lengths_and_instruments_of_other_callers_are_refused() {
-    let (bank, map, score) = (bank(), map(), rows(1));
-    let call = |instrument: u32, bank_len: usize, map_len: usize| {
-        let (mut take, mut first, mut second) = (Take::new(1, 24), 7, 7);
-        // SAFETY: each length is at most that of its buffer.
+fn instruments_and_lengths_of_other_callers_are_refused() {
+    let bank = bank();
+    let reason = |instrument: u32, bank_len: usize| {
+        let (call, none, mut first, mut second) = (sys::retake_render, null_mut(), 7, 7);
+        let (x, y) = (&mut first, &mut second);
+        // SAFETY: `bank_len` is at most the bank's length.
         let number = unsafe {
-            sys::retake_render(
-                instrument,
-                48_000,
-                24,
-                bank.as_ptr(),
-                bank_len,
-                map.as_ptr(),
-                map_len,
-                score.as_ptr(),
-                score.len(),
-                take.out.as_mut_ptr(),
-                take.out.len(),
-                take.aux.as_mut_ptr(),
-                take.aux.len(),
-                take.kept.as_mut_ptr(),
-                take.kept.len(),
-                &mut first,
-                &mut second,
-            )
+            call(instrument, 48_000, 24, bank.as_ptr(), bank_len, null(), 0, null(), 0, none, 0, none, 0, none, 0, x, y)
         };
         (Reason::of(number), first, second)
     };
-    assert_eq!(call(3, BANK, 0), (Reason::Instrument, 0, 0));
-    assert_eq!(call(0, BANK - 1, 0), (Reason::Bank, 0, 0));
-    assert_eq!(call(0, BANK, 4096), (Reason::Map, 0, 0));
-    assert_eq!(call(2, BANK, 4095), (Reason::Map, 0, 0));
-    assert_eq!(call(2, BANK, 4096), (Reason::Other(0), 1, 0));
+    assert_eq!(reason(3, BANK), (Reason::Instrument, 0, 0));
+    assert_eq!(reason(0, BANK - 1), (Reason::Bank, 0, 0));
+    assert_eq!(reason(2, BANK), (Reason::Map, 0, 0));
+    assert_eq!(reason(1, BANK), (Reason::Rows, 0, 0));
 }
 
 #[test]
