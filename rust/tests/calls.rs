@@ -6,7 +6,7 @@ use std::ptr::{null, null_mut};
 
 use common::{ROW, Series, bank, map, setup};
 use wohketa_retake::{
-    BANK, Column, Instrument, KEPT_WORDS, Reason, Refusal, Row, Setup, Take, edit, read_score, render, sys,
+    BANK, Column, Instrument, KEPT_WORDS, MAP, Reason, Refusal, Row, Setup, Take, edit, read_score, render, sys,
 };
 
 fn rows(count: usize) -> Vec<u32> {
@@ -37,6 +37,47 @@ fn a_rendering_writes_every_word_of_a_junk_take() {
         render(&setup, &rows(40), &mut zeros).unwrap();
         assert_eq!(take, zeros);
     }
+}
+
+/// The words after "NAME " in the lines of a text.
+fn lines_of(text: &str, name: &str) -> Vec<Vec<u32>> {
+    let words = |line: &str| line.split(' ').skip(1).map(|word| word.parse().unwrap()).collect();
+    text.lines().filter(|line| line.split(' ').next() == Some(name)).map(words).collect()
+}
+
+/// What the program `c_calls` must print has the model's words for two renderings and an edit of each.
+#[test]
+fn samples_and_kept_words_are_the_models() {
+    let answers = include_str!("../../crates/c_calls/stdout");
+    let (out, aux, kept) = (lines_of(answers, "out"), lines_of(answers, "aux"), lines_of(answers, "kept"));
+    let score = &lines_of(answers, "rows")[0][..15];
+    let bank: Box<[i16; BANK]> = Box::new(std::array::from_fn(|i| (i * 7919 % 32749) as i16));
+    let wavetable = Setup { instrument: Instrument::Wavetable, rate: 48_000, frames: 4, bank: &bank };
+    let terrain = Setup { instrument: Instrument::TerrainWithMap(&[90; MAP]), rate: 44_100, ..wavetable };
+    let rows = [
+        Row { note: 56.0, timbre: 0.75, morph: 0.25, harmonics: 0.5, restart: true },
+        Row { note: 52.0, timbre: 0.5625, morph: 0.375, harmonics: 0.9375, restart: false },
+    ];
+    for (at, (setup, row)) in [wavetable, terrain].into_iter().zip(rows).enumerate() {
+        let (mut score, mut take) = (score.to_vec(), Take::new(3, 4));
+        render(&setup, &score, &mut take).unwrap();
+        assert_eq!([&take.out, &take.aux, &take.kept], [&out[4 * at], &aux[4 * at], &kept[4 * at]]);
+        edit(&setup, &mut score, 1, row, &mut take).unwrap();
+        assert_eq!([&take.out, &take.aux, &take.kept], [&out[4 * at + 1], &aux[4 * at + 1], &kept[4 * at + 1]]);
+    }
+}
+
+#[test]
+fn each_instrument_plays_its_own_samples() {
+    let (bank, map) = (bank(), map());
+    let takes = [Instrument::Wavetable, Instrument::Terrain, Instrument::TerrainWithMap(&map)].map(|instrument| {
+        let mut take = Take::new(2, 24);
+        let row = Row { harmonics: 1.0, ..ROW };
+        render(&setup(instrument, &bank), &[row.words(), row.words()].concat(), &mut take).unwrap();
+        take
+    });
+    assert!(takes[0].out != takes[1].out && takes[1].out != takes[2].out && takes[2].out != takes[0].out);
+    assert!(takes[1].kept[6..13].iter().all(|word| *word == 0));
 }
 
 #[test]
