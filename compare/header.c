@@ -19,6 +19,8 @@ static int16_t bank[RETAKE_BANK_LENGTH + 1];
 static uint8_t map[RETAKE_MAP_LENGTH];
 static uint32_t rows[ROOM * RETAKE_ROW_WORDS], out[SAMPLES], aux[SAMPLES], kept[ROOM * RETAKE_KEPT_WORDS];
 
+static uint32_t flat_rows[ROWS * RETAKE_ROW_WORDS], flat_out[ROWS * FRAMES], flat_aux[ROWS * FRAMES], flat_kept[ROWS * RETAKE_KEPT_WORDS];
+
 static const char text[] =
     "note timbre morph harmonics restart\n"
     "42700000 00000000 00000000 00000000 00000001\n"
@@ -83,6 +85,20 @@ static void nulls(void) {
     retake_floats(NULL, NULL, 0);
 }
 
+/* The same rendering and edit by the library's own functions leave the same words. */
+static void same_as_flat(const retake_settings *s) {
+    uint64_t first, second;
+    memcpy(flat_rows, rows, sizeof flat_rows);
+    memcpy(flat_rows + 5, flat_rows + 10, 5 * sizeof *rows);
+    CHECK(retake_render(s->instrument, 48000, FRAMES, bank, RETAKE_BANK_LENGTH, s->map, s->map_len, flat_rows, 15,
+                        flat_out, 12, flat_aux, 12, flat_kept, 39, &first, &second) == RETAKE_DONE && first == 3);
+    CHECK(retake_edit(s->instrument, 48000, FRAMES, bank, RETAKE_BANK_LENGTH, s->map, s->map_len, flat_rows, 15, 1,
+                      rows[5], rows[6], rows[7], rows[8], rows[9],
+                      flat_out, 12, flat_aux, 12, flat_kept, 39, &first, &second) == RETAKE_DONE && first == 2);
+    CHECK(memcmp(flat_rows, rows, sizeof flat_rows) == 0 && memcmp(flat_out, out, sizeof flat_out) == 0);
+    CHECK(memcmp(flat_aux, aux, sizeof flat_aux) == 0 && memcmp(flat_kept, kept, sizeof flat_kept) == 0);
+}
+
 /* A rendering and an edit in buffers with room for two rows more. */
 static void accepted(uint32_t instrument) {
     const retake_settings settings = settings_of(instrument);
@@ -101,12 +117,19 @@ static void accepted(uint32_t instrument) {
     report = retake_render_score(&settings, &score, &take);
     CHECK(report.refusal == RETAKE_DONE && report.rows == ROWS && report.place == 0);
     row = retake_row_at(&score, 1);
-    CHECK(row.note == 60.0f && row.timbre == 0.5f && row.morph == 0.0f && row.harmonics == 0.0f && row.restart == 0);
+    CHECK(row.note == 60.0f && row.timbre == 0.5f && row.restart == 0);
     row.note = 72.0f;
+    row.timbre = 0.75f;
+    row.morph = 0.25f;
+    row.harmonics = 0.125f;
     row.restart = 1;
     report = retake_edit_row(&settings, &score, &take, 1, row);
     CHECK(report.refusal == RETAKE_DONE && report.rows == 2);
-    CHECK(rows[5] == retake_word(72.0f) && rows[9] == 1);
+    CHECK(rows[5] == retake_word(72.0f) && rows[6] == retake_word(0.75f) && rows[7] == retake_word(0.25f));
+    CHECK(rows[8] == retake_word(0.125f) && rows[9] == 1);
+    row = retake_row_at(&score, 1);
+    CHECK(row.note == 72.0f && row.timbre == 0.75f && row.morph == 0.25f && row.harmonics == 0.125f && row.restart == 1);
+    same_as_flat(&settings);
     CHECK(refused(retake_edit_row(&settings, &score, &take, ROWS, row), RETAKE_REFUSED_POSITION, ROWS));
     row.timbre = 1.5f;
     CHECK(refused(retake_edit_row(&settings, &score, &take, 2, row), RETAKE_REFUSED_LIMIT, 2));
