@@ -99,16 +99,31 @@ static void put(FILE *file, uint32_t number, int bytes) {
     for (; bytes > 0; bytes--, number >>= 8) putc((int)(number & 255), file);
 }
 
+static void put_chunk(FILE *file, const char *name, uint32_t bytes) {
+    fputs(name, file);
+    put(file, bytes, 4);
+}
+
 static void write_wave(const char *folder, const char *name, float samples[2][SAMPLES]) {
-    const uint32_t data = SAMPLES * 8;
+    const uint32_t frame = 2 * sizeof(float), data = SAMPLES * frame;
     FILE *file = create(folder, name);
     int i;
-    fputs("RIFF", file), put(file, 50 + data, 4), fputs("WAVE", file);
-    fputs("fmt ", file), put(file, 18, 4), put(file, 3, 2), put(file, 2, 2);
-    put(file, RATE, 4), put(file, RATE * 8, 4), put(file, 8, 2), put(file, 32, 2), put(file, 0, 2);
-    fputs("fact", file), put(file, 4, 4), put(file, SAMPLES, 4);
-    fputs("data", file), put(file, data, 4);
-    for (i = 0; i < SAMPLES; i++) put(file, retake_word(samples[0][i]), 4), put(file, retake_word(samples[1][i]), 4);
+    put_chunk(file, "RIFF", 50 + data);
+    put_chunk(file, "WAVEfmt ", 18);
+    put(file, 3, 2); /* floats */
+    put(file, 2, 2); /* channels */
+    put(file, RATE, 4);
+    put(file, RATE * frame, 4);
+    put(file, frame, 2);
+    put(file, 32, 2);
+    put(file, 0, 2);
+    put_chunk(file, "fact", 4);
+    put(file, SAMPLES, 4);
+    put_chunk(file, "data", data);
+    for (i = 0; i < SAMPLES; i++) {
+        put(file, retake_word(samples[0][i]), 4);
+        put(file, retake_word(samples[1][i]), 4);
+    }
     close_written(file);
 }
 
