@@ -206,7 +206,8 @@ static void draw(const char *folder) {
     draw_edited(file, BENT, BENT + BENT_ROWS, "96 rows: morph");
     draw_edited(file, MOVED, MOVED + 1, "1 row: note");
     draw_axes(file);
-    fprintf(file, "<text x=\"%d\" y=\"%d\" fill=\"#666\">red: edited rows; shaded: rows that the edits rendered, outside them not a word was written; dashed: a row that restarts; a lane ends at full scale</text>\n", LEFT, BOTTOM + 82);
+    fprintf(file, "<text x=\"%d\" y=\"%d\" fill=\"#666\">red: edited rows; shaded: rows that the edits rendered, outside them not a word was"
+                  " written; dashed: a row that restarts; a lane ends at full scale</text>\n", LEFT, BOTTOM + 82);
     fputs("</svg>\n", file);
     close_written(file);
 }
