@@ -56,9 +56,9 @@ pub fn edit(
         ≡ editOf (setup settings (now (bank .entry)) (now (map .entry))) (now (rows .entry)) position row
         (lent (now (out .entry)) (now (aux .entry)) (now (kept .entry))) ⌝ }
 {
-    let refused = refusal::edit_refusal(settings, bank, map, rows, position, row, out, aux, kept);
-    if refused.number != 0 {
-        return Answer::Refused(refused);
+    let retaking = refusal::edit_refusal(settings, bank, map, rows, position, row, out, aux, kept);
+    if retaking.number != 0 {
+        return Answer::Refused(retaking);
     }
     let equal = score::rows::same_row(rows, position, row);
     if equal {
@@ -67,6 +67,6 @@ pub fn edit(
     let n = rows.len() / ROW_WORDS;
     score::rows::put_row(rows, position, row);
     let next = position + 1;
-    let report = rows::run(settings, bank, map, rows, n, position, next, out, aux, kept);
-    Answer::Done(report)
+    let retaken = rows::run(settings, bank, map, rows, n, position, next, out, aux, kept);
+    Answer::Done(retaken)
 }
