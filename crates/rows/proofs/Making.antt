@@ -1,22 +1,21 @@
 -- A row is made: the words before it are a part of the kept words, its block is the voice's by the definitions' own arguments, and its words
 -- come back into the take as `put`.
 use mathlib.Core.Path.{_≡_, refl, sym, ap, _∙_}
-use mathlib.Core.List.{List, _++_}
+use mathlib.Core.List.{List}
 use mathlib.Core.Bool.{Bool}
 use Prim.Native.Nat.{ℕ, zero, suc, _+_, _-_, _*_, _≤_}
 use native.Mathlib.Omega.{arith}
-use lib.ListN.{length, take, drop}
+use lib.ListN.{take, drop}
 use Rattle.words.specs.Lists.{put, same}
 use Rattle.words.proofs.Copying.{part-long}
 use Rattle.words.proofs.Places.{part-end}
 use Rattle.utils.specs.Rendered.{mostFrames, Renders}
-use Rattle.utils.specs.Holds.{AtMost}
 use Rattle.utils.specs.declared.holds.Holds.{Holds}
 use Rattle.utils.specs.declared.engine.EngineParameters.{EngineParameters}
 use Rattle.voice.specs.declared.State.{State}
 use Rattle.voice.specs.Voice.{keptCount, voiceOf, keptWords, stateOf, rendered}
 use Rattle.score.specs.Rows.{mostRows, rowAt}
-use Rattle.rows.specs.Rows.{Setup, Take, lent, freshStart, keptAt, beforeRow, wordsBefore, parametersOf, startOf, Row, rowFrom, rowBy, rowIn, putWords}
+use Rattle.rows.specs.Rows.{Setup, Take, lent, freshStart, keptAt, beforeRow, wordsBefore, parametersOf, startOf, rowFrom, rowBy}
 use Rattle.rows.specs.Inner.{Blocks, Room, Makes, RowDone}
 
 -- The words before a row that is not the first.

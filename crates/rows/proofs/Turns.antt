@@ -1,21 +1,19 @@
 -- The loop over the rows of a run, by what is left to do: rendering a row and going on is the definition's next step.
-use mathlib.Core.Path.{_≡_, refl, sym, ap, _∙_, subst}
+use mathlib.Core.Path.{_≡_, refl, sym, ap, _∙_}
 use mathlib.Core.List.{List}
 use mathlib.Core.Bool.{Bool, true, false, cond, _||_, true≢false}
 use Prim.Native.Nat.{ℕ, suc, _+_, _-_, _*_, _≤_, _<_}
 use native.Mathlib.Nat.{add-zero, zero-add, add-assoc, le-refl}
 use native.Mathlib.Omega.{arith}
-use borrow.Author.Tests.{eq-eqb, eqb-true, eqb-false}
+use borrow.Author.Tests.{eq-eqb, eqb-false}
 use lib.Dec.{eqb}
 use lib.ListN.{length}
-use Rattle.words.specs.Lists.{same}
 use Rattle.words.proofs.Places.{part-end}
 use Rattle.utils.specs.Holds.{none, plus, AtMost, mostCount}
 use Rattle.utils.specs.Rendered.{mostFrames, mostHolds}
 use Rattle.utils.specs.declared.holds.Holds.{Holds}
 use Rattle.utils.proofs.Sums.{plus-none, none-plus, plus-assoc, most-none, most-more, most-plus}
-use Rattle.score.specs.Rows.{rowWords, mostRows, rowAt, restarts}
-use Rattle.voice.specs.Voice.{keptCount}
+use Rattle.score.specs.Rows.{mostRows, rowAt, restarts}
 use Rattle.rows.specs.declared.Report.{Report}
 use Rattle.rows.specs.Rows.{Setup, Take, Row, keptAt, rowIn, nothing, both, Run, reported, idle, after, stopsOf, runOf}
 use Rattle.rows.specs.Inner.{Holding, Room, RowDone, endOf}

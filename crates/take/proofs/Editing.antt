@@ -1,30 +1,27 @@
 -- An edit of any take, `Retakes`: by the law of runs, with the stop's three reasons read off its test. And what every row has, an edit's
 -- rows have too, `Inherited`.
-use mathlib.Core.Path.{_≡_, refl, sym, ap, _∙_, subst}
-use mathlib.Core.List.{List, [], _∷_}
-use mathlib.Core.Bool.{Bool, true, false, cond, _||_, true≢false}
-use mathlib.Core.Logic.{_⊎_, inl, inr}
-use Prim.Native.Nat.{ℕ, zero, suc, _+_, _-_, _*_, _/_, _≤_, _<_}
+use mathlib.Core.Path.{_≡_, refl, sym, ap, _∙_}
+use mathlib.Core.List.{List}
+use mathlib.Core.Bool.{Bool, true, false, _||_, true≢false}
+use mathlib.Core.Logic.{inl, inr}
+use Prim.Native.Nat.{ℕ, _+_, _-_, _*_, _/_, _≤_}
 use native.Mathlib.Omega.{arith}
-use native.Mathlib.Nat.{le-refl}
-use borrow.Author.Tests.{eq-eqb, ne-eqb, eqb-true, eqb-false, ltb-true, ltb-false}
-use lib.Dec.{eqb, ltb}
+use borrow.Author.Tests.{eq-eqb, eqb-true, eqb-false}
+use lib.Dec.{eqb}
 use lib.ListN.{length}
 use Rattle.words.specs.Lists.{same, Outside}
 use Rattle.words.proofs.Copying.{same-eq, same-refl}
 use Rattle.words.proofs.Places.{put-outside, put-long}
 use Rattle.utils.specs.declared.holds.Holds.{Holds}
 use Rattle.score.specs.Rows.{rowWords, wordFor, restart, rowAt, restarts}
-use Rattle.score.specs.Limits.{rowWithin, limitRefusal}
 use Rattle.score.specs.declared.refusal.Refusal.{Refusal}
-use Rattle.rows.specs.declared.Report.{Report}
-use Rattle.rows.specs.Rows.{Setup, Take, wordsBefore, rowIn, Run, idle, stopsOf, runOf}
+use Rattle.rows.specs.Rows.{Setup, Take, wordsBefore, Run, idle, stopsOf, runOf}
 use Rattle.take.specs.declared.Answer.the-variants.{Done}
-use Rattle.take.specs.Take.{rowCount, lentNumber, scoreRefusal, editRefusal, resultOf, Outcome, refusedBy, ran, editOf}
-use Rattle.take.specs.Retakes.{Edit, withRow, edited, Stop, First, Elsewhere, Writes, Right, wordsAt, madeFrom, holdsOf, Retaken, Retakes}
+use Rattle.take.specs.Take.{rowCount, editRefusal, resultOf, Outcome, ran}
+use Rattle.take.specs.Retakes.{Edit, withRow, edited, Stop, First, Writes, madeFrom, holdsOf, Retaken, Retakes}
 use Rattle.take.proofs.Calls.{edit-refused, edit-room, edit-score, edit-holding, edit-same, edit-run}
-use Rattle.take.proofs.Takes.{Roomy, SameLengths}
-use Rattle.take.proofs.Runs.{StopsAt, Ran, run-ran}
+use Rattle.take.proofs.Takes.{Roomy}
+use Rattle.take.proofs.Runs.{Ran, run-ran}
 
 -- ---- The stop's reasons.
 

@@ -1,26 +1,24 @@
 -- What each made row has, if the row before it has it, every row has after an accepted rendering and any list of edits, `Inherited`: a run
 -- makes its rows from row to row, and leaves the others.
-use mathlib.Core.Path.{_≡_, refl, sym, ap, _∙_, subst}
+use mathlib.Core.Path.{_≡_, refl, sym, ap, subst}
 use mathlib.Core.List.{List, [], _∷_}
-use mathlib.Core.Bool.{Bool, true, false, cond, true≢false}
+use mathlib.Core.Bool.{Bool, true, false, cond}
 use mathlib.Core.Logic.{_⊎_, inl, inr}
 use Prim.Native.Nat.{ℕ, zero, suc, _+_, _*_, _≤_, _<_}
 use native.Mathlib.Omega.{arith}
-use borrow.Author.Tests.{eqb-true, eqb-false, ltb-false}
-use lib.Dec.{eqb, ltb}
+use borrow.Author.Tests.{ltb-false}
+use lib.Dec.{ltb}
 use lib.ListN.{take, drop}
 use lib.Seq.{drop-drop}
-use Rattle.words.specs.Lists.{same}
-use Rattle.words.proofs.Copying.{same-eq, same-refl}
 use Rattle.score.specs.Rows.{rowWords, rowAt}
 use Rattle.score.specs.Limits.{rowWithin, firstBad, badRefusal, limitRefusal}
 use Rattle.score.specs.Numbers.{refusal, accepted, limitNumber}
-use Rattle.rows.specs.Rows.{Setup, Take, beforeRow, rowBy, Run}
-use Rattle.take.specs.Take.{rowCount, lentNumber, renderRefusal, editRefusal, Outcome, renderOf}
-use Rattle.take.specs.Retakes.{Edit, withRow, edited, after, wordsAt, Accepted, Inherits, Inherited}
+use Rattle.rows.specs.Rows.{Setup, Take, beforeRow, Run}
+use Rattle.take.specs.Take.{rowCount, Outcome, renderOf}
+use Rattle.take.specs.Retakes.{Edit, withRow, edited, after, wordsAt, Inherits, Inherited}
 use Rattle.take.proofs.Calls.{render-limits, render-run, edit-refused, edit-score}
 use Rattle.take.proofs.Takes.{words-elsewhere}
-use Rattle.take.proofs.Runs.{Made, Ran}
+use Rattle.take.proofs.Runs.{Ran}
 use Rattle.take.proofs.Editing.{edit-unchanged, edited-run, edit-ran, by-cases, edit-count}
 use Rattle.take.proofs.Retakes.{lt-or-le, accepted-is, all, render-ran, rendered-rows}
 

@@ -2,31 +2,48 @@
 -- take keeps before it; an edit, by what it does to any take, keeps that up; and a take that stands so is the fresh rendering's.
 use mathlib.Core.Path.{_≡_, refl, sym, ap, _∙_, subst}
 use mathlib.Core.List.{List, [], _∷_}
-use mathlib.Core.Bool.{Bool, true, false, cond, true≢false}
+use mathlib.Core.Bool.{Bool, true, false, cond}
 use mathlib.Core.Logic.{_⊎_, inl, inr}
-use Prim.Native.Nat.{ℕ, zero, suc, _+_, _-_, _*_, _/_, _≤_, _<_}
+use Prim.Native.Nat.{ℕ, _+_, _-_, _*_, _/_, _≤_, _<_}
 use native.Mathlib.Omega.{arith}
 use native.Mathlib.Nat.{eq-or-lt-of-le}
-use borrow.Author.Tests.{eq-eqb, ne-eqb, eqb-true, eqb-false, ltb-true, ltb-false}
+use borrow.Author.Tests.{eq-eqb, ne-eqb, eqb-true, ltb-true, ltb-false}
 use lib.Dec.{eqb, ltb}
 use lib.ListN.{length, take, drop, take-append-drop}
 use lib.Seq.{take-all}
 use Rattle.words.specs.Lists.{put, same}
-use Rattle.words.proofs.Copying.{same-eq, same-refl}
 use Rattle.words.proofs.Places.{part-outside}
 use Rattle.utils.specs.declared.holds.Holds.{Holds}
 use Rattle.score.specs.declared.refusal.Refusal.{Refusal}
-use Rattle.score.specs.Rows.{rowWords, wordFor, restart, rowAt, restarts}
-use Rattle.score.specs.Limits.{limitRefusal}
-use Rattle.rows.specs.declared.Report.{Report}
-use Rattle.rows.specs.Rows.{Setup, Take, wordsBefore, Row, startOf, rowFrom, rowBy, rowIn, Run, runOf}
+use Rattle.score.specs.Rows.{rowWords, wordFor, restart, rowAt}
+use Rattle.rows.specs.Rows.{Setup, Take, wordsBefore, Row, startOf, rowFrom, rowBy, Run, runOf}
 use Rattle.take.specs.declared.Answer.the-variants.{Done}
 use Rattle.take.specs.Take.{rowCount, lentNumber, scoreRefusal, refusalOf, renderRefusal, editRefusal, resultOf, Outcome, refusedBy, ran, renderOf}
-use Rattle.take.specs.Retakes.{fresh, takeOf, holdsOf, rowsFrom, beforeIn, Edit, withRow, scoreOne, scoreAfter, edited, after, Stop, First, Right, wordsAt, madeFrom, Retaken, FreshRetaken, EachRight, Accepted, Demand3}
+use Rattle.take.specs.Retakes.{
+  fresh,
+  takeOf,
+  holdsOf,
+  Edit,
+  withRow,
+  scoreOne,
+  scoreAfter,
+  edited,
+  after,
+  Stop,
+  First,
+  Right,
+  wordsAt,
+  madeFrom,
+  Retaken,
+  FreshRetaken,
+  EachRight,
+  Accepted,
+  Demand3,
+}
 use Rattle.take.proofs.Refusals.{usable}
-use Rattle.take.proofs.Takes.{Roomy, SameLengths, words-elsewhere}
-use Rattle.take.proofs.Runs.{Made, made-still, before-same, Ran, run-ran}
-use Rattle.take.proofs.FreshRows.{fresh-long, before-fresh, rows-fresh, Sized, all-fresh}
+use Rattle.take.proofs.Takes.{SameLengths, words-elsewhere}
+use Rattle.take.proofs.Runs.{Made, before-same, Ran, run-ran}
+use Rattle.take.proofs.FreshRows.{fresh-long, before-fresh, rows-fresh, all-fresh}
 use Rattle.take.proofs.Calls.{render-lent, render-run, edit-refused}
 use Rattle.take.proofs.Editing.{edit-unchanged, edited-run, edit-ran, rows-long, score-elsewhere, by-cases, edit-count, retakes}
 

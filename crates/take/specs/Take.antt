@@ -12,21 +12,7 @@ use Rattle.wave_terrain_engine.specs.Heights.{mapLength}
 use Rattle.voice.specs.Voice.{mapInstrument, keptCount}
 use Rattle.score.specs.Rows.{rowWords, mostRows, rowAt, putRow}
 use Rattle.score.specs.Limits.{limitRefusal}
-use Rattle.score.specs.Numbers.{
-  instrumentNumber,
-  rateNumber,
-  blockNumber,
-  bankNumber,
-  mapNumber,
-  rowsNumber,
-  takeNumber,
-  positionNumber,
-  refusal,
-  accepted,
-  Result,
-  done,
-  refused,
-}
+use Rattle.score.specs.Numbers.{instrumentNumber, rateNumber, blockNumber, bankNumber, mapNumber, rowsNumber, takeNumber, positionNumber, refusal, Result, done, refused}
 use Rattle.score.specs.declared.refusal.Refusal.{Refusal}
 use Rattle.rows.specs.Rows.{Setup, Take, Run, idle, runOf}
 use Rattle.take.specs.declared.Answer.{Answer}

@@ -89,10 +89,10 @@ loop-again c =
     let row = c .before .before .before .before .before .before .before .before .before in
     let turn = row .before .before .before .before .before .before .before .before .before .before in
     let holding = turn .before .before .before .before .before .before .before .pre .1 .1 .0 in
-    let lengths = row .render-row .kept in
+    let lengths = row .render-row .kept .1 .1 .1 .1 .1 .1 .1 .1 .1 .1 .1 .1 .1 .1 in
     rw (c .before .before .plus .ensures)
     (running-more _ _ _ _ _ _ _ _ _ _ _ _ _ _ (holding .frames-most) (row .render-row .ensures) (c .before .next-end .ensures) (turn .loop .inv) (c .if1 .left)
-    (record { out-long = lengths .1 .1 .1 .1 .1 .1 .1 .1 .1 .1 .1 .1 .1 .1 .0; aux-long = lengths .1 .1 .1 .1 .1 .1 .1 .1 .1 .1 .1 .1 .1 .1 .1 .0; kept-long = lengths .1 .1 .1 .1 .1 .1 .1 .1 .1 .1 .1 .1 .1 .1 .1 .1 .0 }))
+    (record { out-long = lengths .0; aux-long = lengths .1 .0; kept-long = lengths .1 .1 .0 }))
 
 pub run-rows-spec : {M : Type 1} → statement M
 run-rows-spec =

@@ -62,7 +62,16 @@ returns-7 c =
     let three = four .before in
     let two = three .before in
     let one = two .before in
-    simp (le-ltb _ _ (one .if1 .left), le-ltb _ _ (two .if2 .left), le-ltb _ _ (three .if3 .left), ne-eqb _ _ (four .if4 .left), le-ltb _ _ (five .if5 .left), eq-eqb _ _ (six .if6 .left), sym (c .before .map-length .ensures), ne-eqb _ _ (c .if7 .taken))
+    simp (
+      le-ltb _ _ (one .if1 .left),
+      le-ltb _ _ (two .if2 .left),
+      le-ltb _ _ (three .if3 .left),
+      ne-eqb _ _ (four .if4 .left),
+      le-ltb _ _ (five .if5 .left),
+      eq-eqb _ _ (six .if6 .left),
+      sym (c .before .map-length .ensures),
+      ne-eqb _ _ (c .if7 .taken),
+    )
 
 returns-8 : tie.Need-returns-8
 unfolding settingsNumber
@@ -73,7 +82,16 @@ returns-8 c =
     let three = four .before in
     let two = three .before in
     let one = two .before in
-    simp (le-ltb _ _ (one .if1 .left), le-ltb _ _ (two .if2 .left), le-ltb _ _ (three .if3 .left), ne-eqb _ _ (four .if4 .left), le-ltb _ _ (five .if5 .left), eq-eqb _ _ (six .if6 .left), sym (c .before .map-length .ensures), eq-eqb _ _ (c .if7 .left))
+    simp (
+      le-ltb _ _ (one .if1 .left),
+      le-ltb _ _ (two .if2 .left),
+      le-ltb _ _ (three .if3 .left),
+      ne-eqb _ _ (four .if4 .left),
+      le-ltb _ _ (five .if5 .left),
+      eq-eqb _ _ (six .if6 .left),
+      sym (c .before .map-length .ensures),
+      eq-eqb _ _ (c .if7 .left),
+    )
 
 pub settings-number-spec : {M : Type 1} → statement M
 settings-number-spec =
