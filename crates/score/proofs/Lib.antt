@@ -6,6 +6,7 @@ pub mod RowWords
 pub mod FirstBad
 pub mod Split
 pub mod Names
+pub mod Places
 pub mod FirstLine
 pub mod Digits
 pub mod Fields

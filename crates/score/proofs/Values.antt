@@ -27,7 +27,7 @@ right-line : (count : ℕ) (text : List ℕ) → 0 < count → holdsWords count 
 right-line zero text h e = absurd (omega arith)
 right-line (suc count) text h e = right count text e
 
-readable-at : (n : ℕ) (sources : List Source) (k : ℕ) (source : Source) → eachReadable n sources ≡ true → drop k sources ≡ source ∷ drop (suc k) sources → readable n source ≡ true
+pub readable-at : (n : ℕ) (sources : List Source) (k : ℕ) (source : Source) → eachReadable n sources ≡ true → drop k sources ≡ source ∷ drop (suc k) sources → readable n source ≡ true
 unfolding eachReadable
 readable-at n [] zero source e d = let z : _≡_ {A = ℕ} 0 1 = cc in absurd (omega arith)
 readable-at n [] (suc k) source e d = let z : _≡_ {A = ℕ} 0 1 = cc in absurd (omega arith)

@@ -83,13 +83,17 @@ spelled morph = bytes "morph"
 spelled harmonics = bytes "harmonics"
 spelled restart = bytes "restart"
 
--- "each once": none may be absent.
-abbrev pub named : List ℕ → Entry
-named spelling = record { spelling = spelling; absent = Missing }
+-- What a name stands for where the first line lacks it. "each once": none may be absent.
+abbrev pub absence : Name → Source
+absence note = Missing
+absence timbre = Missing
+absence morph = Missing
+absence harmonics = Missing
+absence restart = Missing
 
 -- "Names: the five, lower case"
 unfoldable pub scoreTable : List Entry
-scoreTable = map (λ name. named (spelled name)) rowNames
+scoreTable = map (λ name. record { spelling = spelled name; absent = absence name }) rowNames
 
 -- Reading a score.
 unfoldable pub readOf : List ℕ → List ℕ → Outcome
@@ -107,7 +111,7 @@ pub record Accepted (count : ℕ) (lent left : List ℕ) : Type 0 where
 
 -- "a sixth name, `row`"
 unfoldable pub editTable : List Entry
-editTable = named (bytes "row") ∷ scoreTable
+editTable = record { spelling = bytes "row"; absent = Missing } ∷ scoreTable
 
 -- An edit's words: its row, then a row's.
 abbrev pub editWords : ℕ

@@ -6,7 +6,7 @@ use crate::refusal::LIMIT;
 use crate::refusal::VALUE;
 use crate::rows::ROW_WORDS;
 use crate::table::MOST_NAMES;
-use crate::table::Source;
+use crate::table::Shape;
 use crate::word::WORD_DIGITS;
 use crate::word::is_word;
 use crate::word::word_at;
@@ -19,13 +19,7 @@ ghost use Rattle.score.specs.Rows.{rowWords};
 ghost use Rattle.score.specs.Limits.{rowWithin};
 ghost use Rattle.score.specs.Text.{holdsWords, wordFrom, rowOf};
 ghost use Rattle.score.specs.Reading.{lineNumber};
-ghost use Rattle.score.specs.Inner.{mostNames, startsWord, lineAt, Sourced, OnLine};
-
-// How many words a row has, and how many names stand on the first line: a line has a word for each of these.
-pub struct Shape {
-    pub width: usize,
-    pub names: usize,
-}
+ghost use Rattle.score.specs.Inner.{mostNames, startsWord, lineAt, sourceAt, sourcesAt, rowSources, Sourced, OnLine};
 
 // A word and the byte after it.
 pub const FIELD: usize = WORD_DIGITS + 1;
@@ -58,38 +52,45 @@ fn holds_words(text: &[u8], from: usize, count: usize) -> bool
     word_then(text, at, LF)
 }
 
-// The word of a source on the line that starts at `from`.
-fn word_from(text: &[u8], from: usize, source: Source) -> u32
-    requires { ⌜ OnLine (source ∷ []) (lineAt (now text) from) ⌝ }
-    ensures { λ r. ⌜ r ≡ wordFrom (lineAt (now (text .entry)) from) source ⌝ }
+// The word of the source at a place, on the line that starts at `from`, where the first line has `names` names.
+fn word_from(text: &[u8], from: usize, place: usize, names: usize) -> u32
+    requires { ⌜ OnLine (sourceAt names place ∷ []) (lineAt (now text) from) ⌝ }
+    ensures { λ r. ⌜ r ≡ wordFrom (lineAt (now (text .entry)) from) (sourceAt names place) ⌝ }
 {
-    match source {
-        Source::Column(column) => word_at(text, from + column * FIELD),
-        Source::Word(word) => word,
-        Source::Missing => 0,
+    if place < names {
+        word_at(text, from + place * FIELD)
+    } else {
+        ((place - names) % 0x100000000) as u32
     }
 }
 
-// The row of the line that starts at `from`, by the sources of its words.
-pub fn write_row(text: &[u8], from: usize, sources: [Source; MOST_NAMES], row: &mut [u32])
-    requires { ⌜ OnLine (take (length (now row)) sources) (lineAt (now text) from) ⌝ }
-    requires { ⌜ length (now row) ≤ mostNames ⌝ }
-    ensures { λ _. ⌜ now (row .exit) ≡ rowOf (take (length (now (row .entry))) sources) (lineAt (now (text .entry)) from) ⌝ }
+// The row of the line that starts at `from`, by the places of its words' sources.
+pub fn write_row(
+    text: &[u8],
+    from: usize,
+    places: &[usize; MOST_NAMES],
+    names: usize,
+    row: &mut [u32],
+)
+    requires { ⌜ OnLine (sourcesAt names (take (length (now row)) (now places))) (lineAt (now text) from) ⌝ }
+    requires { ⌜ (length (now row) ≤ mostNames) × (length (now row) ≤ length (now places)) ⌝ }
+    ensures { λ _. ⌜ now (row .exit) ≡ rowOf (sourcesAt names (take (length (now (row .entry))) (now (places .entry)))) (lineAt (now (text .entry)) from) ⌝ }
 {
     let mut k = 0;
     while k < row.len() {
-        row[k] = word_from(text, from, sources[k]);
+        row[k] = word_from(text, from, places[k], names);
         k += 1;
     }
 }
 
 // The row of the line that starts at `from` is within the limits.
-fn line_within(text: &[u8], from: usize, sources: [Source; MOST_NAMES]) -> bool
-    requires { ⌜ OnLine (take rowWords sources) (lineAt (now text) from) ⌝ }
-    ensures { λ r. ⌜ r ≡ rowWithin (rowOf (take rowWords sources) (lineAt (now (text .entry)) from)) ⌝ }
+fn line_within(text: &[u8], from: usize, places: &[usize; MOST_NAMES], names: usize) -> bool
+    requires { ⌜ OnLine (sourcesAt names (take rowWords (now places))) (lineAt (now text) from) ⌝ }
+    requires { ⌜ rowWords ≤ length (now places) ⌝ }
+    ensures { λ r. ⌜ r ≡ rowWithin (rowOf (sourcesAt names (take rowWords (now (places .entry)))) (lineAt (now (text .entry)) from)) ⌝ }
 {
     let mut row = [0u32; ROW_WORDS];
-    write_row(text, from, sources, &mut row);
+    write_row(text, from, places, names, &mut row);
     row_within(row)
 }
 
@@ -97,20 +98,21 @@ fn line_within(text: &[u8], from: usize, sources: [Source; MOST_NAMES]) -> bool
 pub fn line_number(
     text: &[u8],
     from: usize,
-    sources: [Source; MOST_NAMES],
+    places: &[usize; MOST_NAMES],
     shape: Shape,
     score: bool,
 ) -> u32
     requires { ⌜ from ≤ length (now text) ⌝ }
-    requires { ⌜ Sourced shape sources ⌝ }
+    requires { ⌜ Sourced shape (now places) ⌝ }
     requires { ⌜ (score ≡ true → shape .width ≡ rowWords) ⌝ }
-    ensures { λ r. ⌜ r ≡ lineNumber (shape .names) (take (shape .width) sources) score (lineAt (now (text .entry)) from) ⌝ }
+    ensures { λ r. ⌜ r ≡ lineNumber (shape .names) (rowSources shape (now (places .entry))) score (lineAt (now (text .entry)) from) ⌝ }
 {
-    if !holds_words(text, from, shape.names) {
+    let names = shape.names;
+    if !holds_words(text, from, names) {
         return VALUE;
     }
     if score {
-        if !line_within(text, from, sources) {
+        if !line_within(text, from, places, names) {
             return LIMIT;
         }
     }

@@ -28,7 +28,7 @@ pub fn piece_end(text: &[u8], from: usize, cut: u8) -> usize
 
 // The number of fields of a line.
 pub fn count_fields(line: &[u8]) -> usize
-    ensures { λ r. ⌜ r ≡ length (fieldsOf (now (line .entry))) ⌝ }
+    ensures { λ r. ⌜ (r ≡ length (fieldsOf (now (line .entry)))) × (r ≤ length (now (line .entry)) + 1) ⌝ }
 {
     let mut from = 0;
     let mut count = 0;

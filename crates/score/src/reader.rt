@@ -1,6 +1,5 @@
 // Reading a text of rows: one pass tests it, and only a text that passes is written.
 use crate::lines::FIELD;
-use crate::lines::Shape;
 use crate::lines::line_number;
 use crate::lines::write_row;
 use crate::pieces::LF;
@@ -13,19 +12,21 @@ use crate::refusal::SPACE;
 use crate::rows::MOST_ROWS;
 use crate::rows::ROW_WORDS;
 use crate::table::MOST_NAMES;
+use crate::table::Shape;
 use crate::table::Source;
 use crate::table::each_once;
+use crate::table::places_of;
 use crate::table::sources_of;
 ghost use mathlib.Core.Path.{_≡_};
 ghost use mathlib.Core.Bool.{true, false};
 ghost use mathlib.Core.List.{_++_};
 ghost use Prim.Native.Nat.{_*_, _≤_, _<_};
-ghost use lib.ListN.{length, take, drop};
+ghost use lib.ListN.{length, drop};
 ghost use Rattle.score.specs.declared.reader.ReadAnswer.the-variants.{Read};
 ghost use Rattle.score.specs.Rows.{rowWords};
 ghost use Rattle.score.specs.Text.{linesOf, fieldsOf, rowsOf};
 ghost use Rattle.score.specs.Reading.{testLines, countNumber, outcome, readText, readOf, readEditsOf};
-ghost use Rattle.score.specs.Inner.{mostNames, tableOf, Sourced, readLines};
+ghost use Rattle.score.specs.Inner.{mostNames, tableOf, rowSources, Sourced, readLines};
 
 // What reading a text gives.
 pub enum ReadAnswer {
@@ -41,20 +42,20 @@ pub const EDIT_WORDS: usize = ROW_WORDS + 1;
 fn test_lines(
     text: &[u8],
     next: usize,
-    sources: [Source; MOST_NAMES],
+    places: &[usize; MOST_NAMES],
     shape: Shape,
     score: bool,
 ) -> ReadAnswer
     requires { ⌜ next ≤ length (now text) ⌝ }
-    requires { ⌜ Sourced shape sources ⌝ }
+    requires { ⌜ Sourced shape (now places) ⌝ }
     requires { ⌜ (score ≡ true → shape .width ≡ rowWords) ⌝ }
-    ensures { λ r. ⌜ r ≡ testLines (shape .names) (take (shape .width) sources) score 0 (linesOf (drop next (now (text .entry)))) ⌝ }
+    ensures { λ r. ⌜ r ≡ testLines (shape .names) (rowSources shape (now (places .entry))) score 0 (linesOf (drop next (now (text .entry)))) ⌝ }
 {
     let names = shape.names;
     let mut from = next;
     let mut at = 0;
     while from < text.len() {
-        let number = line_number(text, from, sources, shape, score);
+        let number = line_number(text, from, places, shape, score);
         if number != 0 {
             return ReadAnswer::Refused(Refusal { number, place: at });
         }
@@ -68,16 +69,16 @@ fn test_lines(
 fn write_rows(
     text: &[u8],
     next: usize,
-    sources: [Source; MOST_NAMES],
+    places: &[usize; MOST_NAMES],
     shape: Shape,
     lines: usize,
     rows: &mut [u32],
 )
-    requires { ⌜ (next ≤ length (now text)) × (shape .width ≤ mostNames) ⌝ }
-    requires { ⌜ Sourced shape sources ⌝ }
-    requires { ⌜ testLines (shape .names) (take (shape .width) sources) false 0 (linesOf (drop next (now text))) ≡ Read lines ⌝ }
+    requires { ⌜ next ≤ length (now text) ⌝ }
+    requires { ⌜ Sourced shape (now places) ⌝ }
+    requires { ⌜ testLines (shape .names) (rowSources shape (now places)) false 0 (linesOf (drop next (now text))) ≡ Read lines ⌝ }
     requires { ⌜ shape .width * lines ≤ length (now rows) ⌝ }
-    ensures { λ _. ⌜ now (rows .exit) ≡ rowsOf (take (shape .width) sources) (linesOf (drop next (now (text .entry)))) ++ drop (shape .width * lines) (now (rows .entry)) ⌝ }
+    ensures { λ _. ⌜ now (rows .exit) ≡ rowsOf (rowSources shape (now (places .entry))) (linesOf (drop next (now (text .entry)))) ++ drop (shape .width * lines) (now (rows .entry)) ⌝ }
 {
     let width = shape.width;
     let names = shape.names;
@@ -86,7 +87,7 @@ fn write_rows(
     let mut k = 0;
     while k < lines {
         let end = base + width;
-        write_row(text, from, sources, &mut rows[base..end]);
+        write_row(text, from, places, names, &mut rows[base..end]);
         from += names * FIELD;
         base = end;
         k += 1;
@@ -111,17 +112,17 @@ fn count_number(score: bool, words: usize, count: usize, lent: usize) -> u32
 fn read_lines(
     text: &[u8],
     next: usize,
-    sources: [Source; MOST_NAMES],
+    places: &[usize; MOST_NAMES],
     shape: Shape,
     score: bool,
     rows: &mut [u32],
 ) -> ReadAnswer
-    requires { ⌜ (next ≤ length (now text)) × (shape .width ≤ mostNames) ⌝ }
-    requires { ⌜ Sourced shape sources ⌝ }
+    requires { ⌜ next ≤ length (now text) ⌝ }
+    requires { ⌜ Sourced shape (now places) ⌝ }
     requires { ⌜ (score ≡ true → shape .width ≡ rowWords) ⌝ }
-    ensures { λ r. ⌜ outcome r (now (rows .exit)) ≡ readLines score shape (take (shape .width) sources) (linesOf (drop next (now (text .entry)))) (now (rows .entry)) ⌝ }
+    ensures { λ r. ⌜ outcome r (now (rows .exit)) ≡ readLines score shape (now (places .entry)) (linesOf (drop next (now (text .entry)))) (now (rows .entry)) ⌝ }
 {
-    let answer = test_lines(text, next, sources, shape, score);
+    let answer = test_lines(text, next, places, shape, score);
     match answer {
         ReadAnswer::Refused(r) => ReadAnswer::Refused(r),
         ReadAnswer::Read(lines) => {
@@ -129,7 +130,7 @@ fn read_lines(
             if number != 0 {
                 return ReadAnswer::Refused(Refusal { number, place: 0 });
             }
-            write_rows(text, next, sources, shape, lines, rows);
+            write_rows(text, next, places, shape, lines, rows);
             ReadAnswer::Read(lines)
         }
     }
@@ -167,7 +168,8 @@ fn read_text(
             place: 0,
         });
     }
-    read_lines(text, end + 1, sources, shape, score, rows)
+    let places = places_of(sources, shape);
+    read_lines(text, end + 1, &places, shape, score, rows)
 }
 
 // Reads a score: its rows' words in row order, whatever the columns' order.

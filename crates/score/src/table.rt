@@ -4,16 +4,22 @@ use crate::pieces::column_of;
 use crate::pieces::count_fields;
 use crate::pieces::piece_end;
 ghost use mathlib.Core.Path.{_≡_};
-ghost use mathlib.Core.Bool.{cond};
+ghost use mathlib.Core.Bool.{cond, true};
 ghost use Prim.Native.Nat.{_≤_};
 ghost use lib.Dec.{ltb};
 ghost use lib.ListN.{length, take};
 ghost use Rattle.score.specs.declared.table.Source.the-variants.{Column};
-ghost use Rattle.score.specs.Text.{fieldsOf, sourcesOf, readable, columnsIn, eachOnce};
-ghost use Rattle.score.specs.Inner.{mostNames, tableOf};
+ghost use Rattle.score.specs.Text.{fieldsOf, sourcesOf, readable, eachReadable, columnsIn, eachOnce};
+ghost use Rattle.score.specs.Inner.{mostNames, tableOf, sourceAt, rowSources};
 
 // The most names of a table: an edit's six.
 pub const MOST_NAMES: usize = 6;
+
+// How many words a row has, and how many names stand on the first line: a line has a word for each of these.
+pub struct Shape {
+    pub width: usize,
+    pub names: usize,
+}
 
 // Where a word of a row comes from.
 pub enum Source {
@@ -94,4 +100,33 @@ pub fn each_once(sources: [Source; MOST_NAMES], width: usize, count: usize) -> b
         k += 1;
     }
     columns == count
+}
+
+// A source as one number: a column by itself, and a word with the number of names added.
+fn place_of(source: Source, names: usize) -> usize
+    requires { ⌜ names ≤ 0x8000000000000000 ⌝ }
+    ensures { λ r. ⌜ (readable names source ≡ true → sourceAt names r ≡ source) ⌝ }
+{
+    match source {
+        Source::Column(column) => column,
+        Source::Word(word) => names + word as usize,
+        Source::Missing => 0,
+    }
+}
+
+// The sources of a row's words as numbers.
+pub fn places_of(sources: [Source; MOST_NAMES], shape: Shape) -> [usize; MOST_NAMES]
+    requires { ⌜ (shape .width ≤ mostNames) × (shape .names ≤ 0x8000000000000000) ⌝ }
+    requires { ⌜ eachReadable (shape .names) (take (shape .width) sources) ≡ true ⌝ }
+    ensures { λ r. ⌜ rowSources shape r ≡ take (shape .width) sources ⌝ }
+{
+    let width = shape.width;
+    let names = shape.names;
+    let mut places = [0; MOST_NAMES];
+    let mut k = 0;
+    while k < width {
+        places[k] = place_of(sources[k], names);
+        k += 1;
+    }
+    places
 }

@@ -16,13 +16,15 @@ line-within-requires : tie.Need-line-within-requires
 line-within-requires c κs =
     let p = c .before .before .before .before in
     let five = p .pre .1 .1 (c .if2 .taken) in
-    let s = p .pre .1 .0 in
-    record {
-      names = p .args .shape .names;
-      some = s .some-names;
-      words = sym (c .before .before .holds-words .ensures) ∙ not-false _ (c .before .if1 .left);
-      readable = rw five at (s .readable);
-    }
+    let s = p .pre .1 .0 in (
+      record {
+        names = p .args .shape .names;
+        some = s .some-names;
+        words = sym (c .before .before .holds-words .ensures) ∙ not-false _ (c .before .if1 .left);
+        readable = rw five at (s .readable);
+      },
+      rw five at (s .enough),
+    )
 
 returns-2 : tie.Need-returns-2
 returns-2 c =

@@ -37,7 +37,9 @@ loop-again c =
     (search needs, search needs, omega (arith, ap length e))
 
 returns : tie.Need-returns Inv-loop μ-loop
-returns c = omega (arith, ap length (no-piece space (c .before .before .before .args .line .now) (c .before .loop .from) (c .loop-test .left)))
+returns c =
+    let none = ap length (no-piece space (c .before .before .before .args .line .now) (c .before .loop .from) (c .loop-test .left)) in
+    (omega arith, search needs)
 
 pub count-fields-spec : {M : Type 1} → statement M
 count-fields-spec =

@@ -2,7 +2,8 @@
 use mathlib.Core.Path.{refl, sym, ap, _∙_}
 use Prim.Native.Nat.{_-_}
 use native.Mathlib.Omega.{arith}
-use lib.ListN.{length, take}
+use lib.ListN.{length}
+use Rattle.score.specs.Inner.{rowSources}
 use Rattle.score.specs.Reading.{refusedAt}
 use Rattle.score.proofs.Values.{Tested, none-left, line-refused, line-fits, line-passes}
 use borrow.Author.Needs.{needs}
@@ -10,10 +11,10 @@ use Rattle.score.proofs.reader.test_lines.Statement.{statement}
 use Rattle.score.proofs.reader.test_lines.Tie as tie
 
 abbrev Inv-loop : tie.InvT-loop
-Inv-loop text next sources shape score names from₀ at₀ from at = Tested names (take (shape .width) sources) score text next from at
+Inv-loop text next places shape score names from₀ at₀ from at = Tested names (rowSources shape places) score text next from at
 
 abbrev μ-loop : tie.MeasureT-loop
-μ-loop text next sources shape score names from₀ at₀ from at = length text - from
+μ-loop text next places shape score names from₀ at₀ from at = length text - from
 
 loop-holds : tie.Need-loop-holds Inv-loop μ-loop
 loop-holds c = record { inside = c .before .pre .0; counted = search needs; left = refl }

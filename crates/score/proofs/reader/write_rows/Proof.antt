@@ -4,20 +4,20 @@ use Prim.Native.Nat.{_-_}
 use native.Mathlib.Omega.{arith}
 use lib.ListN.{take}
 use Rattle.score.specs.Text.{rowOf}
-use Rattle.score.specs.Inner.{lineAt}
+use Rattle.score.specs.Inner.{lineAt, sourcesAt}
 use Rattle.score.proofs.Storing.{Stored, stores, words-there, next-fits, part-fits, part-long, stores-on, all-stored}
 use borrow.Author.Needs.{needs}
 use Rattle.score.proofs.reader.write_rows.Statement.{statement}
 use Rattle.score.proofs.reader.write_rows.Tie as tie
 
 abbrev Inv-loop : tie.InvT-loop
-Inv-loop text next sources lines rows₀ width names from₀ base₀ k₀ rows from base k = Stored names width (take width sources) text next lines rows₀ rows from base k
+Inv-loop text next places lines rows₀ width names from₀ base₀ k₀ rows from base k = Stored names width (sourcesAt names (take width places)) text next lines rows₀ rows from base k
 
 abbrev μ-loop : tie.MeasureT-loop
-μ-loop text next sources lines rows₀ width names from₀ base₀ k₀ rows from base k = lines - k
+μ-loop text next places lines rows₀ width names from₀ base₀ k₀ rows from base k = lines - k
 
 loop-holds : tie.Need-loop-holds Inv-loop μ-loop
-loop-holds c = let p = c .before .before .pre in stores _ _ _ _ _ _ _ (p .0 .0) (p .1 .1 .0)
+loop-holds c = let p = c .before .before .pre in stores _ _ _ _ _ _ _ (p .0) (p .1 .1 .0)
 
 add-end : tie.Need-add-end Inv-loop μ-loop
 add-end c =
@@ -51,7 +51,7 @@ write-row-requires c κs =
     let s = p .1 .0 in
     let words = words-there _ _ _ _ _ _ _ (p .1 .1 .1) (s .some-names) _ _ _ _ (l .inv) t in
     rw (part-long _ _ _ _ _ _ _ (p .1 .1 .1) (s .some-names) _ _ _ _ (l .inv) t)
-    (record { names = _; some = s .some-names; words = words; readable = s .readable }, p .0 .1)
+    (record { names = _; some = s .some-names; words = words; readable = s .readable }, (s .most-words, s .enough))
 
 mul-from : tie.Need-mul-from Inv-loop μ-loop
 mul-from c =
@@ -81,8 +81,9 @@ loop-again c =
     let t = c .before .before .before .before .loop-test .taken in
     let some = p .pre .1 .0 .some-names in
     let n = part-long _ _ _ _ _ _ _ (p .pre .1 .1 .1) some _ _ _ _ (l .inv) t in
-    let row = w .ensures ∙ ap (λ m. rowOf (take m (p .args .sources)) (lineAt (p .args .text .now) (l .from))) n in
-    stores-on _ _ _ _ _ _ _ (p .pre .1 .1 .1) some _ _ _ _ (l .inv) t _ row (w .kept .1 .1 .1 .0 ∙ n)
+    let line = lineAt (p .args .text .now) (l .from) in
+    let row = w .ensures ∙ ap (λ m. rowOf (sourcesAt (p .args .shape .names) (take m (p .args .places .now))) line) n in
+    stores-on _ _ _ _ _ _ _ (p .pre .1 .1 .1) some _ _ _ _ (l .inv) t _ row (w .kept .1 .1 .1 .1 .0 ∙ n)
 
 same-length : tie.Need-same-length Inv-loop μ-loop
 same-length c = c .before .loop .inv .long

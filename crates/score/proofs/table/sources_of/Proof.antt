@@ -77,7 +77,7 @@ loop-again c =
     let e = c .before .before .before .before .piece-end .ensures .0 in
     let k = left (p .args .names .now) (fieldsOf (p .args .line .now)) _ _ _ _ _ (l .inv) t e in
     let d = drop-cons (l .sources) (l .k) (Column 0) (omega (arith, l .inv .long, p .pre)) in
-    let s = rw (c .before .before .column-of .ensures, c .before .before .before .before .before .before .before .count-fields .ensures) at (c .source-of .ensures) in
+    let s = rw (c .before .before .column-of .ensures, c .before .before .before .before .before .before .before .count-fields .ensures .0) at (c .source-of .ensures) in
     places-on (p .args .names .now) (fieldsOf (p .args .line .now)) _ _ _ _ _ (l .inv) t e (search needs) (p .pre) _ _ d s
 
 returns : tie.Need-returns Inv-loop μ-loop
