@@ -9,7 +9,7 @@ use borrow.Author.Tests.{eq-eqb, ne-eqb, le-ltb}
 use lib.Dec.{eqb, ltb}
 use lib.ListN.{length, take, drop, length-append, length-map, length-replicate}
 use lib.Seq.{length-take-le, take-take, take-nil}
-use Rattle.formats.specs.Formats.{samplesOf, lowFirst}
+use Rattle.formats.specs.Formats.{samplesOf}
 use Rattle.score.specs.Limits.{rowWords, firstBad}
 use Rattle.score.specs.Numbers.{Result, success, refused, spaceNumber, namesNumber, rowsNumber}
 use Rattle.score.specs.Text.{Line, linesOf, rowOf, rowsOf, columnsOf, columnsBy, firstOf, restOf, holdsNames}
@@ -21,8 +21,10 @@ use Rattle.score.proofs.Storing.{counted}
 use Rattle.take.specs.Take.{Take, resultOf, renderOf, renderRefusal, refusalOf, limitRefusal, lentNumber, settingsNumber, lengthsNumber, keptCount}
 use Rattle.take.specs.Take as calls
 use Rattle.take.proofs.Retakes.{demand-3}
-use Rattle.retake_lib.specs.Program.{mostText, mostRows, bankBytes, instrument, rate, frames, zeros, textOf, scoreText, editsText, settingsOf, blank, editsFrom, played, outputOf, program, FilesFresh}
-use Rattle.retake_lib.proofs.Texts.{refused-not, accepted}
+use Rattle.inputs.specs.Inputs.{mostText, mostRows, bankBytes, zeros, textOf, scoreText, editsText}
+use Rattle.inputs.proofs.Texts.{refused-not, accepted}
+use Rattle.outputs.specs.Files.{filesOf}
+use Rattle.retake_lib.specs.Program.{instrument, rate, frames, settingsOf, blank, editsFrom, played, outputOf, program, FilesFresh}
 
 -- ---- as many words are read as the rows have
 
@@ -53,8 +55,10 @@ unfolding settleScore store
 settled-long (refused k place) rows lent n f e = refused-not k place n e
 settled-long (success c) rows lent n f e = pick (eqb c 0 || ltb reading.mostRows c) (ltb (length lent) (rowWords * c)) e
   where
-    pick : (a b : Bool) → cond a (refuse rowsNumber 0 lent) (cond b (refuse spaceNumber 0 lent) (record { result = success c; rows = rows ++ drop (rowWords * c) lent })) .result ≡ success n
-        → rowWords * n ≤ length (cond a (refuse rowsNumber 0 lent) (cond b (refuse spaceNumber 0 lent) (record { result = success c; rows = rows ++ drop (rowWords * c) lent })) .rows)
+    settled : Bool → Bool → reading.Outcome
+    settled a b = cond a (refuse rowsNumber 0 lent) (cond b (refuse spaceNumber 0 lent) (record { result = success c; rows = rows ++ drop (rowWords * c) lent }))
+
+    pick : (a b : Bool) → settled a b .result ≡ success n → rowWords * n ≤ length (settled a b .rows)
     pick true b e = refused-not rowsNumber 0 n e
     pick false true e = refused-not spaceNumber 0 n e
     pick false false e =
@@ -120,7 +124,9 @@ lengths-pass : (n : ℕ) → 0 < n → n ≤ calls.mostRows → lengthsNumber fr
 unfolding lengthsNumber
 lengths-pass n some few =
     let d : n * rowWords / rowWords ≡ n = mul-div-cancel n (omega arith) in
-    rw (mul-mod-left n rowWords, d, ne-eqb n 0 (λ z. omega arith), le-ltb calls.mostRows n few, eq-eqb (n * frames) (n * frames) refl, eq-eqb (n * keptCount) (n * keptCount) refl) refl
+    let same-frames = eq-eqb (n * frames) (n * frames) refl in
+    let same-kept = eq-eqb (n * keptCount) (n * keptCount) refl in
+    rw (mul-mod-left n rowWords, d, ne-eqb n 0 (λ z. omega arith), le-ltb calls.mostRows n few, same-frames, same-kept) refl
 
 module _ (bank rows : List ℕ) (n : ℕ) (b : length bank ≡ bankBytes) (g : Brought n rows) where
   score-long : length (take (n * rowWords) rows) ≡ n * rowWords
@@ -136,7 +142,8 @@ module _ (bank rows : List ℕ) (n : ℕ) (b : length bank ≡ bankBytes) (g : B
   lent-pass : lentNumber (settingsOf bank) (take (n * rowWords) rows) (blank n) ≡ 0
   unfolding lentNumber zeros
   lent-pass =
-      rw (settings-pass (length (samplesOf bank)) (samples-long calls.bankLength bank b), score-long, length-replicate {A = ℕ} (n * frames) 0, length-replicate {A = ℕ} (n * keptCount) 0)
+      let pass = settings-pass (length (samplesOf bank)) (samples-long calls.bankLength bank b) in
+      rw (pass, score-long, length-replicate {A = ℕ} (n * frames) 0, length-replicate {A = ℕ} (n * keptCount) 0)
       (lengths-pass n (g .some) (g .few))
 
   render-passes : resultOf (renderOf (settingsOf bank) (take (n * rowWords) rows) (blank n) .answer) .number ≡ 0
@@ -151,4 +158,4 @@ files-fresh score edits bank n m e =
     let a = accepted (scoreText score .result) (editsText edits .result) (length bank) n m e in
     let q = render-passes bank (scoreText score .rows) n (a .bank-long) (brought score n (a .score)) in
     let p = demand-3 (settingsOf bank) (take (n * rowWords) (scoreText score .rows)) (blank n) (editsFrom m (editsText edits .rows)) q in
-    rw e (ap (λ (t : Take). lowFirst (t .out)) (p .take-fresh), ap (λ (t : Take). lowFirst (t .aux)) (p .take-fresh))
+    rw e (ap (λ (t : Take). filesOf (t .out) (t .aux)) (p .take-fresh))

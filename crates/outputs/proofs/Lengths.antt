@@ -1,0 +1,31 @@
+-- A number's line of digits is known by how many there can be: so are the lengths of lines. A number with a byte stored behind it.
+use mathlib.Core.Path.{_≡_}
+use mathlib.Core.List.{List, [], _∷_, _++_}
+use Prim.Native.Nat.{ℕ, _+_, _-_, _≤_, _<_}
+use native.Mathlib.Omega.{arith}
+use lib.ListN.{length, set, length-append}
+use Rattle.formats.specs.Formats.{Written, mostDigits, decimalOf}
+use Rattle.formats.proofs.Bytes.{digits-most, put-more}
+use Rattle.score.specs.Text.{lf, space}
+use Rattle.take.specs.declared.Answer.{Answer}
+use Rattle.take.specs.declared.Answer.the-variants.{Done, Refused}
+use Rattle.outputs.specs.Lines.{number, countsLine, refusedLine, editLine, mostNumber, mostLine}
+
+pub digits-within : (n : ℕ) → length (decimalOf n) ≤ mostDigits
+digits-within n = omega (arith, digits-most (mostDigits - 1) n)
+
+pub number-written : (l m : List ℕ) (a n end r : ℕ) → a + mostNumber ≤ length l → Written (decimalOf n) l a m r → Written (number n end) l a (set m r end) (r + 1)
+number-written l m a n end r h w =
+    let b : a + length (decimalOf n) < length l = omega (arith, digits-within n) in
+    record { put-in = rw (w .put-in, w .end-is) (put-more l a (decimalOf n) end b); end-is = rw (w .end-is, length-append) (omega arith) }
+
+pub number-most : (n end : ℕ) → length (number n end) ≤ mostNumber
+number-most n end = rw length-append (omega (arith, digits-within n))
+
+pub line-most : (row : ℕ) (a : Answer) → length (editLine row a) ≤ mostLine
+unfolding editLine countsLine refusedLine
+line-most row (Done rendered held) =
+    rw (length-append (number row space) (number rendered space ++ number held lf), length-append (number rendered space) (number held lf))
+    (omega (arith, number-most row space, number-most rendered space, number-most held lf))
+line-most row (Refused n place) =
+    rw (length-append (number n space) (number place lf)) (omega (arith, number-most n space, number-most place lf))
