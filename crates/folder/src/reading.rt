@@ -1,8 +1,8 @@
 // Reading a file into lent bytes, a chunk at a time.
-ghost use Prim.Native.Nat.{_+_, _≤_};
+ghost use Prim.Native.Nat.{_≤_};
 ghost use lib.ListN.{length};
 ghost use Rattle.io.specs.Counts.{Counts};
-ghost use Rattle.folder.specs.Chunks.{chunk, ChunkEnd, CameIn};
+ghost use Rattle.folder.specs.Chunks.{ChunkEnd, CameIn};
 
 // Files are read so many bytes at a time: 4 KiB.
 const CHUNK: usize = 4096;

@@ -1,6 +1,5 @@
 // Writing a file whole or not at all: a new file beside it is written first, and then takes its place. Where that fails, a line on
 // standard error says so, the new file is removed, and the old one is as it was.
-ghost use lib.ListN.{length};
 ghost use Rattle.io.specs.Counts.{Counts};
 ghost use Rattle.outputs.specs.Files.{Within};
 use formats::put_text;

@@ -1,7 +1,7 @@
 // Texts and numbers as the program `retake` reads and writes them: decimal digits, and words and samples as bytes, low byte first.
 ghost use mathlib.Core.Path.{_≡_};
 ghost use Prim.Native.Nat.{_+_, _*_, _≤_, _<_};
-ghost use lib.ListN.{length, getD};
+ghost use lib.ListN.{length};
 ghost use Rattle.formats.specs.Formats.{Written, mostDigits, digits, decimalOf, bytesOf, lowFirst, i16Of, samplesOf};
 
 // The most digits of a number.

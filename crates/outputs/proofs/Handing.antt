@@ -10,7 +10,7 @@ use Rattle.formats.specs.Formats.{Written, lowFirst}
 use Rattle.formats.proofs.Writing.{written-more, written-within}
 use Rattle.outputs.specs.declared.files.Place.{Place}
 use Rattle.outputs.specs.declared.files.Files.{Files}
-use Rattle.outputs.specs.declared.files.Files.the-variants.{Nothing, Both}
+use Rattle.outputs.specs.declared.files.Files.the-variants.{Both}
 use Rattle.outputs.specs.Files.{File, wordsFile, Stands, Handed, nothing, both, Within}
 
 -- so many bytes lent behind the name, and what was left there

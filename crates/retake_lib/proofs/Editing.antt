@@ -13,7 +13,7 @@ use Rattle.formats.specs.Formats.{Written}
 use Rattle.formats.proofs.Writing.{written-more}
 use Rattle.outputs.specs.Lines.{editLine, mostLine}
 use Rattle.outputs.proofs.Lengths.{line-most}
-use Rattle.retake_lib.specs.Program.{editLines, editFrom, editAt, editsFrom}
+use Rattle.retake_lib.specs.Program.{editLines, editAt, editsFrom}
 use Rattle.retake_lib.specs.Lent.{EditDone, EditsDone}
 
 -- ---- one edit

@@ -2,7 +2,7 @@
 use Prim.Native.Nat.{ℕ, _+_, _*_, _≤_, _<_}
 use mathlib.Core.Path.{_≡_}
 use mathlib.Core.List.{List}
-use lib.ListN.{length, drop}
+use lib.ListN.{length}
 use Rattle.formats.specs.Formats.{Written}
 use Rattle.score.specs.Reading.{editWords}
 use Rattle.take.specs.declared.Answer.{Answer}

@@ -1,5 +1,4 @@
 // The program `retake` over lent bytes: what it prints, and which files it writes, by the bytes of the three files that it reads.
-ghost use mathlib.Core.Path.{_≡_};
 ghost use lib.ListN.{take};
 ghost use Rattle.inputs.specs.Inputs.{mostText, bankBytes};
 ghost use Rattle.retake_lib.specs.Program.{program};

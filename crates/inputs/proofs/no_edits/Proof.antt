@@ -1,4 +1,4 @@
--- `inputs::no_edits` meets its contract.
+-- `inputs::no_edits` meets its contract: words of 0.
 use mathlib.Core.Path.{refl}
 use Rattle.inputs.specs.Inputs.{zeros}
 use Rattle.inputs.proofs.no_edits.Statement.{statement}

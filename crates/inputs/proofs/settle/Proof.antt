@@ -1,4 +1,4 @@
--- `inputs::settle` meets its contract.
+-- `inputs::settle` meets its contract: one case for each way the answers can turn out.
 use borrow.Author.Tests.{eq-eqb, ne-eqb}
 use borrow.Author.Needs.{needs}
 use Rattle.inputs.specs.Inputs.{inputsOf}

@@ -1,5 +1,5 @@
 -- `retake_lib::run_into` meets its contract: the program goes by what was read (program-is), to a refusal or to what is played.
-use mathlib.Core.Path.{sym, _∙_}
+use mathlib.Core.Path.{sym}
 use borrow.Author.Needs.{needs}
 use Rattle.inputs.proofs.Texts.{full-bank, given-within}
 use Rattle.retake_lib.specs.Program.{outputOf}
@@ -34,8 +34,9 @@ slice-aggregate-play-2 c = sym (c .before .before .before .before .before .read 
 play-requires : tie.Need-play-requires
 play-requires c κs =
     let taken = c .before .before .before .before .before .before .given2 .given .1 in
-    let texts = c .before .before .before .before .before .before .before .before .read .ensures in
-    (full-bank texts taken, (given-within texts taken, c .before .before .before .before .before .before .before .before .before .before .before .before .before .before .before .before .before .before .before .pre))
+    let read = c .before .before .before .before .before .before .before .before in
+    let texts = read .read .ensures in
+    (full-bank texts taken, (given-within texts taken, read .before .before .before .before .before .before .before .before .before .before .before .pre))
 
 same-length : tie.Need-same-length
 same-length c = search needs

@@ -1,4 +1,4 @@
--- `outputs::lines::put_answer` meets its contract.
+-- `outputs::lines::put_answer` meets its contract: a line for each case of the answer.
 use borrow.Author.Needs.{needs}
 use Rattle.outputs.specs.Lines.{editLine}
 use Rattle.outputs.proofs.lines.put_answer.Statement.{statement}

@@ -42,24 +42,27 @@ array-borrow-prefix-out c = search needs
 
 slice-aggregate-play-words-2 : tie.Need-slice-aggregate-play-words-2
 slice-aggregate-play-words-2 c =
-    let most = c .before .before .before .before .before .before .before .before .before .before .pre .0 .rows-most in
-    part-long _ (c .before .before .before .before .before .before .before .before .before .before .args .n * frames) (c .before .before .before .before .no-samples .ensures) (omega (arith, most))
+    let zero = c .before .before .before .before in
+    let e = zero .before .before .before .before .before .before in
+    part-long _ (e .args .n * frames) (zero .no-samples .ensures) (omega (arith, e .pre .0 .rows-most))
 
 array-borrow-prefix-aux : tie.Need-array-borrow-prefix-aux
 array-borrow-prefix-aux c = search needs
 
 slice-aggregate-play-words-3 : tie.Need-slice-aggregate-play-words-3
 slice-aggregate-play-words-3 c =
-    let most = c .before .before .before .before .before .before .before .before .before .before .before .pre .0 .rows-most in
-    part-long _ (c .before .before .before .before .before .before .before .before .before .before .before .args .n * frames) (c .before .before .before .before .no-samples2 .ensures) (omega (arith, most))
+    let zero = c .before .before .before .before in
+    let e = zero .before .before .before .before .before .before .before in
+    part-long _ (e .args .n * frames) (zero .no-samples2 .ensures) (omega (arith, e .pre .0 .rows-most))
 
 array-borrow-prefix-kept : tie.Need-array-borrow-prefix-kept
 array-borrow-prefix-kept c = search needs
 
 slice-aggregate-play-words-4 : tie.Need-slice-aggregate-play-words-4
 slice-aggregate-play-words-4 c =
-    let most = c .before .before .before .before .before .before .before .before .before .before .before .before .pre .0 .rows-most in
-    part-long _ (c .before .before .before .before .before .before .before .before .before .before .before .before .args .n * keptCount) (c .before .before .before .before .no-kept .ensures) (omega (arith, most))
+    let zero = c .before .before .before .before in
+    let e = zero .before .before .before .before .before .before .before .before in
+    part-long _ (e .args .n * keptCount) (zero .no-kept .ensures) (omega (arith, e .pre .0 .rows-most))
 
 play-words-requires : tie.Need-play-words-requires
 play-words-requires c κs =
