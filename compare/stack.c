@@ -18,12 +18,15 @@ static uint32_t answer;
 static void *nothing(void *unused) { return unused; }
 
 static void *render(void *unused) {
-    answer = retake_render(instrument, 48000, FRAMES, bank, 25344, map, instrument == 2 ? 4096 : 0, rows, ROWS * 5, out, ROWS * FRAMES, aux, ROWS * FRAMES, kept, ROWS * 13, &first, &second);
+    answer = retake_render(instrument, 48000, FRAMES, bank, 25344, map, instrument == 2 ? 4096 : 0, rows, ROWS * 5,
+                           out, ROWS * FRAMES, aux, ROWS * FRAMES, kept, ROWS * 13, &first, &second);
     return unused;
 }
 
 static void *edit(void *unused) {
-    answer = retake_edit(instrument, 48000, FRAMES, bank, 25344, map, instrument == 2 ? 4096 : 0, rows, ROWS * 5, 0, 0x42700000 - instrument, 0x3f000000, 0x3f000000, 0x3f000000, 0, out, ROWS * FRAMES, aux, ROWS * FRAMES, kept, ROWS * 13, &first, &second);
+    answer = retake_edit(instrument, 48000, FRAMES, bank, 25344, map, instrument == 2 ? 4096 : 0, rows, ROWS * 5,
+                         0, 0x42700000 - instrument, 0x3f000000, 0x3f000000, 0x3f000000, 0,
+                         out, ROWS * FRAMES, aux, ROWS * FRAMES, kept, ROWS * 13, &first, &second);
     return unused;
 }
 

@@ -3,8 +3,11 @@
 
 192 waves of 132 samples (i16, low byte first), 3 banks of 8 by 8, made here by adding up partials: sines and drawbars, saw and
 pulse shapes, formants. The engine differentiates what it reads, so a wave is stored as its running sum, 1,024 for a full-scale
-sample, and its first four samples are repeated behind the 128 of its period. Partials are cosines, so that each sum starts near 0
-and a restart doesn't click."""
+sample, and its first four samples are repeated behind the 128 of its period. Partials are cosines, so that each sum starts near 0:
+this keeps small the impulse that a restart begins with, but does not take it away. `init` sets the differentiator to 0, and what it
+meets first is the value of wave 0 at phase 0, which is stored sample 1: 2,046 here, so twice full scale. At timbre, morph and harmonics
+0.75 and 48,000 Hz a restart is above full scale for 312 samples at note 24, 8 at note 48, 2 at note 84; with the bank that the original
+publishes it begins at 19 times full scale, and is above it for 202, 58 and 18 samples."""
 import math
 import struct
 import sys

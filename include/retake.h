@@ -1,9 +1,14 @@
 /* Automation scores over the Plaits wavetable voices, with single-row retakes.
  *
+ * SPDX-License-Identifier: MIT
+ * Copyright (c) 2026 Wohketa (LICENSE). The voices are ported from mi-plaits-dsp-rs, Copyright (c) 2022
+ * Oliver Rockstedt, under the same licence (NOTICE); a program that links the library ships both.
+ *
  * Link with target/staticlib/libretake_c.a, which `rt staticlib retake_c` writes (x86-64 Linux).
  *
- * A word is 32 bits. A float's word is its binary32 pattern; any NaN is written as 7fc00000.
+ * Words and rows
  *
+ * A word is 32 bits. A float's word is its binary32 pattern; any NaN is written as 7fc00000.
  * A row is five words, with these limits:
  *     note        a float from 0 to 120
  *     timbre      a float from 0 to 1
@@ -15,11 +20,41 @@
  * A take is what a score plays: `out` and `aux`, rows times frames words each, and `kept`, 13 words
  * for each row, the voice's state after it.
  *
- * Every buffer is the caller's, and each length counts elements, not bytes. No two buffers of a call
- * may overlap. The functions keep nothing between calls, allocate nothing and always end; those that
- * get different buffers may run at the same time.
+ * Two ways to call
  *
- * Each function returns 0, or the number of its refusal; a refused call changes no lent buffer.
+ * The library has three functions: retake_read_score, retake_render, retake_edit. Below them stand
+ * inline functions over structs (settings, score, take, row, report), which call the same three:
+ * retake_read_text, retake_render_score, retake_edit_row. Both may be mixed.
+ *
+ * What is lent
+ *
+ * Every buffer is the caller's, and each length counts elements, not bytes. No two buffers of a call
+ * may overlap, and `first` and `second` are two places of their own. The functions keep nothing
+ * between calls, allocate nothing, take about 15 KiB of stack and always end; calls that get different
+ * buffers may run at the same time.
+ *
+ * A pointer whose length is 0 may be NULL: nothing is read or written through it, and the answer is
+ * that of any buffer of length 0. With another length a pointer must not be NULL and has that many
+ * elements, aligned as their type asks. `first` and `second` must not be NULL.
+ *
+ * Samples are lent as words. What C allows: lend an array of uint32_t and read its samples by
+ * retake_float or retake_floats (memcpy; no code is left of it), or lend the words of a
+ * union { uint32_t words[N]; float samples[N]; } and read its samples (in C, not in C++).
+ * A float array lent through a cast, (uint32_t *)samples, or a word read through (float *)&out[i],
+ * breaks C's aliasing rules.
+ *
+ * Answers
+ *
+ * Each function returns 0 (RETAKE_DONE), or the number of its refusal. `first` and `second` are
+ * results: each call writes both.
+ *
+ *                          success                               refusal
+ *                          *first           *second              *first      *second
+ *     retake_read_score    row count        0                    place       0
+ *     retake_render        rows rendered    held in these rows   place       0
+ *     retake_edit          rows rendered    held in these rows   place       0
+ *
+ * `held` counts how often a position was held at its top. A refused call changes no lent buffer.
  *
  *     number         when                                                     place
  *      1 instrument  not 0 wavetable, 1 terrain, 2 terrain with map           0
@@ -34,18 +69,85 @@
  *     10 names       first line not the five names, or no LF ends it          0
  *     11 value       a line not five words                                    that line, from 0
  *     12 space       lent row words fewer than 5 times rows                   0
- *
- * `first` and `second` are always written: on a refusal with the place and 0.
  */
 #ifndef RETAKE_H
 #define RETAKE_H
 
+#include <float.h>
 #include <stddef.h>
 #include <stdint.h>
+#include <string.h>
+
+#if FLT_RADIX != 2 || FLT_MANT_DIG != 24 || FLT_MAX_EXP != 128
+#error "retake.h: float is not binary32 here"
+#endif
 
 #ifdef __cplusplus
 extern "C" {
 #endif
+
+/* The version of this header and of the archive that is built beside it. A number is added to an enum,
+ * a member to the end of a struct or a function in a minor version; anything else moves the major one. */
+#define RETAKE_VERSION_MAJOR 0
+#define RETAKE_VERSION_MINOR 1
+#define RETAKE_VERSION_PATCH 0
+#define RETAKE_VERSION "0.1.0"
+
+#define RETAKE_ROW_WORDS 5        /* words of a row */
+#define RETAKE_KEPT_WORDS 13      /* words kept after each row */
+#define RETAKE_MOST_ROWS 4096     /* rows of the longest score */
+#define RETAKE_MOST_FRAMES 128    /* frames of the longest block */
+#define RETAKE_LOWEST_RATE 32000  /* Hz */
+#define RETAKE_HIGHEST_RATE 192000
+#define RETAKE_WAVES 192          /* waves of a bank */
+#define RETAKE_WAVE_LENGTH 132    /* samples of a wave: a period of 128, and its first four again */
+#define RETAKE_BANK_LENGTH 25344  /* samples of a bank: 192 times 132 */
+#define RETAKE_MAP_EDGE 64        /* rows of a map, and bytes of each */
+#define RETAKE_MAP_LENGTH 4096    /* bytes of a map: 64 times 64 */
+
+enum retake_instrument {
+    RETAKE_WAVETABLE = 0,
+    RETAKE_TERRAIN = 1,
+    RETAKE_TERRAIN_WITH_MAP = 2
+};
+
+enum retake_refusal {
+    RETAKE_DONE = 0, /* no refusal */
+    RETAKE_REFUSED_INSTRUMENT = 1,
+    RETAKE_REFUSED_RATE = 2,
+    RETAKE_REFUSED_BLOCK = 3,
+    RETAKE_REFUSED_BANK = 4,
+    RETAKE_REFUSED_MAP = 5,
+    RETAKE_REFUSED_ROWS = 6,
+    RETAKE_REFUSED_TAKE = 7,
+    RETAKE_REFUSED_POSITION = 8,
+    RETAKE_REFUSED_LIMIT = 9,
+    RETAKE_REFUSED_NAMES = 10,
+    RETAKE_REFUSED_VALUE = 11,
+    RETAKE_REFUSED_SPACE = 12
+};
+
+/* The words of a refusal's number; a text for every number there is. */
+static inline const char *retake_refusal_text(uint32_t number) {
+    switch (number) {
+    case RETAKE_DONE: return "done";
+    case RETAKE_REFUSED_INSTRUMENT: return "no such instrument";
+    case RETAKE_REFUSED_RATE: return "the rate is not from 32,000 to 192,000 Hz";
+    case RETAKE_REFUSED_BLOCK: return "the frame count is not from 1 to 128";
+    case RETAKE_REFUSED_BANK: return "the bank has not 25,344 samples";
+    case RETAKE_REFUSED_MAP: return "the map has not the length that the instrument wants";
+    case RETAKE_REFUSED_ROWS: return "the row words are not 1 to 4,096 rows of five";
+    case RETAKE_REFUSED_TAKE: return "out, aux or kept has not the length that the score wants";
+    case RETAKE_REFUSED_POSITION: return "the edited row is not below the row count";
+    case RETAKE_REFUSED_LIMIT: return "a word is outside its name's limit";
+    case RETAKE_REFUSED_NAMES: return "the first line is not the five names, each once";
+    case RETAKE_REFUSED_VALUE: return "a line is not five words of eight hexadecimal digits";
+    case RETAKE_REFUSED_SPACE: return "the lent row words are fewer than the score needs";
+    default: return "a refusal that this header does not know";
+    }
+}
+
+/* ---- The library's functions ---- */
 
 /* Reads a score's text: a line of the five names in any order, then a line of five words, eight
  * hexadecimal digits each, for each row; one space between, LF after every line. The words are
@@ -57,8 +159,7 @@ uint32_t retake_read_score(const uint8_t *text, size_t text_len,
                            uint64_t *first, uint64_t *second);
 
 /* Renders a whole score into a take. `bank` is 25,344 samples, 192 waves of 132. `map` is 4,096
- * bytes, 64 rows of 64, for instrument 2; for the others its length is 0, and it may then be any
- * pointer that is not null.
+ * bytes, 64 rows of 64, for instrument 2; for the others its length is 0.
  *
  * Success: *first is the number of rows rendered, *second how often a position was held at its top.
  * Refusals: 1 to 7, then 9. */
@@ -88,6 +189,149 @@ uint32_t retake_edit(uint32_t instrument, uint32_t rate, uint32_t frames,
                      uint32_t *aux, size_t aux_len,
                      uint32_t *kept, size_t kept_len,
                      uint64_t *first, uint64_t *second);
+
+/* ---- Words and floats ---- */
+
+/* The word of a float. */
+static inline uint32_t retake_word(float x) {
+    uint32_t word;
+    memcpy(&word, &x, sizeof word);
+    return word;
+}
+
+/* The float of a word. */
+static inline float retake_float(uint32_t word) {
+    float x;
+    memcpy(&x, &word, sizeof x);
+    return x;
+}
+
+/* The samples of `count` words, as floats. */
+static inline void retake_floats(float *samples, const uint32_t *words, size_t count) {
+    if (count > 0) memcpy(samples, words, count * sizeof *words);
+}
+
+/* ---- The same calls over structs ---- */
+
+/* What stays the same from call to call of one take. No map: NULL and 0. */
+typedef struct retake_settings {
+    uint32_t instrument; /* an enum retake_instrument */
+    uint32_t rate;       /* Hz */
+    uint32_t frames;     /* of each row's block */
+    const int16_t *bank;
+    size_t bank_len;
+    const uint8_t *map;
+    size_t map_len;
+} retake_settings;
+
+/* A score: its rows stand in the first 5 times `count` of `rows_len` lent words. */
+typedef struct retake_score {
+    uint32_t *rows;
+    size_t rows_len;
+    uint64_t count;
+} retake_score;
+
+/* A take; each buffer may be longer than the score needs, and what lies past it stays. */
+typedef struct retake_take {
+    uint32_t *out;
+    size_t out_len;
+    uint32_t *aux;
+    size_t aux_len;
+    uint32_t *kept;
+    size_t kept_len;
+} retake_take;
+
+/* One row, as floats. */
+typedef struct retake_row {
+    float note;
+    float timbre;
+    float morph;
+    float harmonics;
+    uint32_t restart;
+} retake_row;
+
+/* A call's answer. */
+typedef struct retake_report {
+    uint32_t refusal; /* an enum retake_refusal; RETAKE_DONE where the call was accepted */
+    uint64_t place;   /* of the refusal, else 0 */
+    uint64_t rows;    /* rows rendered; retake_read_text: rows read; 0 on a refusal */
+    uint64_t held;    /* how often a position was held in them; 0 on a refusal */
+} retake_report;
+
+/* The report of what a function returned and wrote. */
+static inline retake_report retake_report_of(uint32_t number, uint64_t first, uint64_t second) {
+    retake_report report;
+    report.refusal = number;
+    report.place = number == RETAKE_DONE ? 0 : first;
+    report.rows = number == RETAKE_DONE ? first : 0;
+    report.held = number == RETAKE_DONE ? second : 0;
+    return report;
+}
+
+/* The row words that the functions are lent: none where the count asks for more than there are, which is
+ * refused with 6. */
+static inline size_t retake_rows_lent(const retake_score *score) {
+    return score->count <= score->rows_len / RETAKE_ROW_WORDS ? (size_t)score->count * RETAKE_ROW_WORDS : 0;
+}
+
+/* As many words of a buffer as each row wants times the rows; all of it where it is too short, which is
+ * refused with 7. */
+static inline size_t retake_part_lent(size_t length, uint64_t count, uint32_t each) {
+    return each > 0 && count <= length / each ? (size_t)count * each : length;
+}
+
+/* Row `position`, which must be below the score's count. */
+static inline retake_row retake_row_at(const retake_score *score, uint64_t position) {
+    const uint32_t *words = score->rows + (size_t)position * RETAKE_ROW_WORDS;
+    retake_row row;
+    row.note = retake_float(words[0]);
+    row.timbre = retake_float(words[1]);
+    row.morph = retake_float(words[2]);
+    row.harmonics = retake_float(words[3]);
+    row.restart = words[4];
+    return row;
+}
+
+/* Reads a score's text into the lent row words; on success the score's count is set. Refusals: as
+ * retake_read_score. */
+static inline retake_report retake_read_text(retake_score *score, const char *text, size_t text_len) {
+    uint64_t first, second;
+    uint32_t number = retake_read_score((const uint8_t *)text, text_len, score->rows, score->rows_len, &first, &second);
+    if (number == RETAKE_DONE) score->count = first;
+    return retake_report_of(number, first, second);
+}
+
+/* Renders the whole score into the take. Refusals: as retake_render, but 6 for a count of 0 or above
+ * 4,096 or fewer row words than 5 times it, and 7 for a buffer that is too short. */
+static inline retake_report retake_render_score(const retake_settings *settings, const retake_score *score,
+                                                const retake_take *take) {
+    uint64_t first, second;
+    uint32_t number = retake_render(settings->instrument, settings->rate, settings->frames,
+                                    settings->bank, settings->bank_len, settings->map, settings->map_len,
+                                    score->rows, retake_rows_lent(score),
+                                    take->out, retake_part_lent(take->out_len, score->count, settings->frames),
+                                    take->aux, retake_part_lent(take->aux_len, score->count, settings->frames),
+                                    take->kept, retake_part_lent(take->kept_len, score->count, RETAKE_KEPT_WORDS),
+                                    &first, &second);
+    return retake_report_of(number, first, second);
+}
+
+/* Puts a row into the score and renders what depends on it. Settings, score and take are those of the
+ * rendering, as the call before left them. Refusals: as retake_edit, with 6 and 7 as above. */
+static inline retake_report retake_edit_row(const retake_settings *settings, const retake_score *score,
+                                            const retake_take *take, uint64_t position, retake_row row) {
+    uint64_t first, second;
+    uint32_t number = retake_edit(settings->instrument, settings->rate, settings->frames,
+                                  settings->bank, settings->bank_len, settings->map, settings->map_len,
+                                  score->rows, retake_rows_lent(score), position,
+                                  retake_word(row.note), retake_word(row.timbre), retake_word(row.morph),
+                                  retake_word(row.harmonics), row.restart,
+                                  take->out, retake_part_lent(take->out_len, score->count, settings->frames),
+                                  take->aux, retake_part_lent(take->aux_len, score->count, settings->frames),
+                                  take->kept, retake_part_lent(take->kept_len, score->count, RETAKE_KEPT_WORDS),
+                                  &first, &second);
+    return retake_report_of(number, first, second);
+}
 
 #ifdef __cplusplus
 }

@@ -5,63 +5,54 @@
  */
 #include <inttypes.h>
 #include <stdio.h>
-#include <string.h>
 
 #include "retake.h"
 
-enum { ROWS = 3, FRAMES = 24, RATE = 48000, BANK = 25344, SAMPLES = ROWS * FRAMES };
+enum { ROWS = 3, FRAMES = 24, SAMPLES = ROWS * FRAMES };
 
-static const char score[] =
+static const char text[] =
     "note timbre morph harmonics restart\n"
     "42700000 00000000 00000000 00000000 00000001\n"
     "42700000 3f000000 00000000 00000000 00000000\n"
     "42700000 3f000000 00000000 00000000 00000001\n";
 
-static int16_t bank[BANK];
-static uint32_t rows[ROWS * 5], out[SAMPLES], aux[SAMPLES], kept[ROWS * 13];
+static int16_t bank[RETAKE_BANK_LENGTH];
+static uint32_t rows[ROWS * RETAKE_ROW_WORDS], out[SAMPLES], aux[SAMPLES], kept[ROWS * RETAKE_KEPT_WORDS];
 
-static uint32_t word_of(float x) {
-    uint32_t word;
-    memcpy(&word, &x, sizeof word);
-    return word;
-}
-
-static float float_of(uint32_t word) {
-    float x;
-    memcpy(&x, &word, sizeof x);
-    return x;
-}
-
-/* Prints a call's answer; 1 if it was refused. */
-static int refused(const char *call, uint32_t number, uint64_t first, uint64_t second) {
-    if (number != 0) {
-        printf("%s refused: number %" PRIu32 ", place %" PRIu64 "\n", call, number, first);
+/* Prints a call's report; 1 if it was refused. */
+static int refused(const char *call, retake_report report) {
+    if (report.refusal != RETAKE_DONE) {
+        printf("%s refused: %s (number %" PRIu32 ", place %" PRIu64 ")\n",
+               call, retake_refusal_text(report.refusal), report.refusal, report.place);
         return 1;
     }
-    printf("%s: %" PRIu64 " rows, held %" PRIu64 "\n", call, first, second);
+    printf("%s: %" PRIu64 " rows, held %" PRIu64 "\n", call, report.rows, report.held);
     return 0;
 }
 
 int main(void) {
-    const uint8_t no_map[1] = {0};
-    uint64_t first, second;
-    uint32_t number;
+    const retake_settings settings = {RETAKE_WAVETABLE, 48000, FRAMES, bank, RETAKE_BANK_LENGTH, NULL, 0};
+    const retake_take take = {out, SAMPLES, aux, SAMPLES, kept, ROWS * RETAKE_KEPT_WORDS};
+    retake_score score = {rows, ROWS * RETAKE_ROW_WORDS, 0};
+    retake_row row;
+    int i;
 
     /* 192 ramps, louder from wave to wave. */
-    for (int i = 0; i < BANK; i++) bank[i] = (int16_t)((i % 132 - 66) * (i / 132 + 1));
+    for (i = 0; i < RETAKE_BANK_LENGTH; i++) {
+        bank[i] = (int16_t)((i % RETAKE_WAVE_LENGTH - 66) * (i / RETAKE_WAVE_LENGTH + 1));
+    }
 
-    number = retake_read_score((const uint8_t *)score, strlen(score), rows, ROWS * 5, &first, &second);
-    if (refused("read", number, first, second)) return 1;
+    if (refused("read", retake_read_text(&score, text, sizeof text - 1))) return 1;
+    if (refused("render", retake_render_score(&settings, &score, &take))) return 1;
+    printf("last sample of row 1 before the edit: %.9g\n", retake_float(out[2 * FRAMES - 1]));
 
-    number = retake_render(0, RATE, FRAMES, bank, BANK, no_map, 0, rows, ROWS * 5,
-                           out, SAMPLES, aux, SAMPLES, kept, ROWS * 13, &first, &second);
-    if (refused("render", number, first, second)) return 1;
-    printf("last sample of row 1 before the edit: %.9g\n", float_of(out[2 * FRAMES - 1]));
+    row = retake_row_at(&score, 1);
+    row.timbre = 1.0f;
+    if (refused("edit", retake_edit_row(&settings, &score, &take, 1, row))) return 1;
+    printf("last sample of row 1 after it:        %.9g\n", retake_float(out[2 * FRAMES - 1]));
 
-    number = retake_edit(0, RATE, FRAMES, bank, BANK, no_map, 0, rows, ROWS * 5, 1,
-                         word_of(60.0f), word_of(1.0f), word_of(0.0f), word_of(0.0f), 0,
-                         out, SAMPLES, aux, SAMPLES, kept, ROWS * 13, &first, &second);
-    if (refused("edit", number, first, second)) return 1;
-    printf("last sample of row 1 after it:        %.9g\n", float_of(out[2 * FRAMES - 1]));
+    /* Past its limit: the call is refused, and score and take stay as they are. */
+    row.timbre = 1.5f;
+    if (!refused("edit", retake_edit_row(&settings, &score, &take, 1, row))) return 1;
     return 0;
 }

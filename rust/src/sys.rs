@@ -1,6 +1,8 @@
-//! The library's C functions, as `include/retake.h` explains them.
+//! The library's C functions, as `include/retake.h` explains them: each pointer goes with its length,
+//! no two buffers overlap, and `first` and `second` are written by every call.
 
 unsafe extern "C" {
+    /// Reads a score's text into row words.
     pub fn retake_read_score(
         text: *const u8,
         text_len: usize,
@@ -10,6 +12,7 @@ unsafe extern "C" {
         second: *mut u64,
     ) -> u32;
 
+    /// Renders a whole score into a take.
     pub fn retake_render(
         instrument: u32,
         rate: u32,
@@ -30,6 +33,7 @@ unsafe extern "C" {
         second: *mut u64,
     ) -> u32;
 
+    /// Puts five words into a row and renders what depends on it.
     pub fn retake_edit(
         instrument: u32,
         rate: u32,

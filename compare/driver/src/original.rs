@@ -11,8 +11,8 @@ use original::engine2::wave_terrain_engine::WaveTerrainEngine;
 use original::resources::waves::WAV_INTEGRATED_WAVES;
 
 /// The published bank, as long as nothing was lent.
-pub fn published_bank() -> Vec<i16> {
-    WAV_INTEGRATED_WAVES.to_vec()
+pub fn published_bank() -> [i16; model::BANK] {
+    *WAV_INTEGRATED_WAVES
 }
 
 /// Prints no message for a panic in the original's own lines: the comparison expects some.

@@ -2,11 +2,21 @@
 // rendered afresh into other words.
 ghost use Prim.Native.Nat.{_<_};
 use libc::STDOUT_FILENO;
+use rows::Settings;
 use take::Answer;
 
 const RATE: u32 = 48000;
 
 const FRAMES: usize = 6;
+
+// An instrument's settings.
+fn settings(instrument: u32) -> Settings {
+    Settings {
+        instrument,
+        rate: RATE,
+        frames: FRAMES,
+    }
+}
 
 // Whether two runs of words are the same.
 fn same(a: &[u32], b: &[u32]) -> bool {
@@ -61,17 +71,17 @@ fn fill_map(map: &mut [u8]) {
 
 fn show(a: Answer) {
     match a {
-        Answer::Done(rows, held) => {
+        Answer::Done(report) => {
             io::write_all(STDOUT_FILENO, b"done ");
-            io::print_decimal(STDOUT_FILENO, rows as u64);
+            io::print_decimal(STDOUT_FILENO, report.rows as u64);
             io::write_all(STDOUT_FILENO, b" ");
-            io::print_decimal(STDOUT_FILENO, held as u64);
+            io::print_decimal(STDOUT_FILENO, report.holds.held as u64);
         }
-        Answer::Refused(number, place) => {
+        Answer::Refused(refusal) => {
             io::write_all(STDOUT_FILENO, b"refused ");
-            io::print_decimal(STDOUT_FILENO, number as u64);
+            io::print_decimal(STDOUT_FILENO, refusal.number as u64);
             io::write_all(STDOUT_FILENO, b" ");
-            io::print_decimal(STDOUT_FILENO, place as u64);
+            io::print_decimal(STDOUT_FILENO, refusal.place as u64);
         }
     }
 }
@@ -90,9 +100,7 @@ fn compare(
     let mut fresh_aux = [0x7fc00001; 72];
     let mut fresh_kept = [0xffffffff; 156];
     let _answer = take::render(
-        instrument,
-        RATE,
-        FRAMES,
+        settings(instrument),
         bank,
         map,
         rows,
@@ -128,9 +136,7 @@ fn turn(
     kept: &mut [u32],
 ) {
     show(take::edit(
-        instrument,
-        RATE,
-        FRAMES,
+        settings(instrument),
         bank,
         map,
         rows,
@@ -328,9 +334,7 @@ fn list(instrument: u32, bank: &[i16], map: &[u8]) {
     let mut aux = [0x7f800001; 72];
     let mut kept = [0x80000000; 156];
     show(take::render(
-        instrument,
-        RATE,
-        FRAMES,
+        settings(instrument),
         bank,
         map,
         &rows,

@@ -4,9 +4,8 @@ use mathlib.Core.List.{List}
 use mathlib.Core.Bool.{cond}
 use lib.Dec.{eqb}
 use lib.Ieee.{Float, binary32, ofBits, toBits}
-use Rattle.words.specs.Binary32.{_⊘_, decimal}
 use Rattle.words.specs.Parts.{wholePart, wholeFloat, wholeI32Float}
-use Rattle.utils.specs.Units.{noteToFrequency, lutPitchRatioHigh, lutPitchRatioLow}
+use Rattle.utils.specs.Units.{a0Of, noteToFrequency, lutPitchRatioHigh, lutPitchRatioLow}
 use Rattle.utils.specs.Utils.{absOf, fastRsqrtCarmack}
 use Rattle.utils.specs.Frames.{eachOf}
 use Rattle.oscillator.specs.Sine.{sineOf, lutSine}
@@ -14,6 +13,10 @@ use Rattle.oscillator.specs.Sine.{sineOf, lutSine}
 -- A float's word.
 abbrev word : Float → ℕ
 word x = toBits binary32 x
+
+-- The rate of the frequencies.
+abbrev pub rate : ℕ
+rate = 48000
 
 -- The answer of a helper, by its number, at a float.
 unfoldable pub answerAt : ℕ → Float → ℕ
@@ -25,7 +28,7 @@ answerAt which x =
     (cond (eqb which 4) (word (absOf x))
     (cond (eqb which 5) (word (fastRsqrtCarmack x))
     (cond (eqb which 6) (word (sineOf lutSine x))
-    (word (noteToFrequency lutPitchRatioHigh lutPitchRatioLow x (decimal 55 0 ⊘ decimal 48000 0)))))))))
+    (word (noteToFrequency lutPitchRatioHigh lutPitchRatioLow x (a0Of rate)))))))))
 
 -- The next word; after the last one the first.
 abbrev pub nextWord : ℕ → ℕ

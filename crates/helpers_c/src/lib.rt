@@ -5,6 +5,9 @@ ghost use Rattle.utils.specs.Units.{lutPitchRatioHigh, lutPitchRatioLow};
 ghost use Rattle.oscillator.specs.Sine.{lutSine};
 ghost use Rattle.helpers_c.specs.Helpers.{answerAt, answersFrom};
 
+// The rate of the frequencies.
+const RATE: u32 = 48000;
+
 // The answer of helper `which` at a float: 0 the float's word, 1 whole part, 2 the same as a float, 3 through i32, 4 abs,
 // 5 fast_rsqrt_carmack, 6 sine, else note_to_frequency at 48,000 Hz. Floats as words.
 fn answer(which: u32, x: f32, sine: &[f32; 641], high: &[f32; 256], low: &[f32; 256]) -> u64
@@ -21,7 +24,12 @@ fn answer(which: u32, x: f32, sine: &[f32; 641], high: &[f32; 256], low: &[f32; 
         4 => words::to_word(utils::abs(x)) as u64,
         5 => words::to_word(utils::rsqrt::fast_rsqrt_carmack(x)) as u64,
         6 => words::to_word(oscillator::sine_oscillator::sine(sine, x)) as u64,
-        _ => words::to_word(utils::engine::note_to_frequency(high, low, x, 55.0 / 48000.0)) as u64,
+        _ => words::to_word(utils::engine::note_to_frequency(
+            high,
+            low,
+            x,
+            utils::engine::a0(RATE),
+        )) as u64,
     }
 }
 

@@ -1,4 +1,5 @@
 -- What the proofs of this crate share.
+pub mod Sizes
 pub mod Readings
 pub mod NearSine
 pub mod SineTop

@@ -3,7 +3,8 @@
 use mathlib.Core.Path.{_≡_, refl, sym, ap, _∙_, subst}
 use mathlib.Core.Bool.{Bool, true, false, _&&_, false≢true}
 use Prim.Native.Nat.{ℕ, zero, suc, _+_, _-_, _*_, _/_, _%_, _^_, _≤_, _<_}
-use native.Mathlib.Nat.{mul-assoc, mul-right-comm, mul-one, one-mul, mul-le-mul-right, mod-lt, mod-eq-of-lt, mod-le, mod-one, le-trans, lt-of-le-of-lt, lt-of-lt-of-le, le-of-lt, le-of-eq, not-le-of-lt, zero-mul, div-add-mod', div-lt-iff-lt-mul, mul-add-div-right, mul-add-mod-self-right, min-eq-left}
+use native.Mathlib.Nat.{mul-assoc, mul-right-comm, mul-one, one-mul, mul-le-mul-right, mod-lt, mod-eq-of-lt, mod-le, mod-one, le-trans, lt-of-le-of-lt}
+use native.Mathlib.Nat.{lt-of-lt-of-le, le-of-lt, le-of-eq, not-le-of-lt, zero-mul, div-add-mod', div-lt-iff-lt-mul, mul-add-div-right, mul-add-mod-self-right, min-eq-left}
 use native.Mathlib.Omega.{arith}
 use borrow.Author.Tests.{ltb-true, le-ltb, leb-true, leb-false}
 use lib.Dec.{T, ltb, leb, eqb, lit<, lit≤, ltb→lt, leb→le, eqb→eq}
@@ -80,7 +81,9 @@ module _ (p : Float) (P D : ℕ) (few : Few P D) (v : HasValue p false P D) (bel
 
   near-value : HasValue (round binary32 false (P * 512) D) false (P * 512) D
   near-value =
-      let e : few .digits * 2 ^ (few .above + 9) ≡ P * 512 = ap (λ (n : ℕ). few .digits * n) (pow-add 2 (few .above) 9) ∙ sym (mul-assoc (few .digits) (2 ^ few .above) 512) ∙ ap (λ (n : ℕ). n * 512) (sym (few .is)) in
+      let e : few .digits * 2 ^ (few .above + 9) ≡ P * 512 =
+      ap (λ (n : ℕ). few .digits * n) (pow-add 2 (few .above) 9)
+      ∙ sym (mul-assoc (few .digits) (2 ^ few .above) 512) ∙ ap (λ (n : ℕ). n * 512) (sym (few .is)) in
       let m : few .above + 9 ≤ 100 = omega (arith, few .above-most) in
       subst (λ (n : ℕ). HasValue (round binary32 false n D) false n D) e (rounded (few .digits) (few .above + 9) (few .digits-few) m)
 
@@ -115,12 +118,24 @@ module _ (p : Float) (P D : ℕ) (few : Few P D) (v : HasValue p false P D) (bel
 
   pub near-whole : partOf 8388606 (p ⊗ decimal 512 0) .whole % 512 ≡ partOf 639 (clampOf (p ⊖ wholeI32Float p) (decimal 0 0) (decimal 1 0) ⊗ decimal 512 0) .whole
   near-whole =
-      rw (wrapped, times p P v, times _ (P % D) fraction-value, part-at 8388606 _ (P * 512) near-value near-most (lit≤ tt), part-at 639 _ (P % D * 512) far-value (le-trans (le-of-lt entry-less) (lit≤ tt)) (lit≤ tt))
+      rw (
+        wrapped,
+        times p P v,
+        times _ (P % D) fraction-value,
+        part-at 8388606 _ (P * 512) near-value near-most (lit≤ tt),
+        part-at 639 _ (P % D * 512) far-value (le-trans (le-of-lt entry-less) (lit≤ tt)) (lit≤ tt),
+      )
       entry-is
 
   pub near-fraction : partOf 8388606 (p ⊗ decimal 512 0) .fraction ≡ partOf 639 (clampOf (p ⊖ wholeI32Float p) (decimal 0 0) (decimal 1 0) ⊗ decimal 512 0) .fraction
   near-fraction =
-      rw (wrapped, times p P v, times _ (P % D) fraction-value, part-at 8388606 _ (P * 512) near-value near-most (lit≤ tt), part-at 639 _ (P % D * 512) far-value (le-trans (le-of-lt entry-less) (lit≤ tt)) (lit≤ tt))
+      rw (
+        wrapped,
+        times p P v,
+        times _ (P % D) fraction-value,
+        part-at 8388606 _ (P * 512) near-value near-most (lit≤ tt),
+        part-at 639 _ (P % D * 512) far-value (le-trans (le-of-lt entry-less) (lit≤ tt)) (lit≤ tt),
+      )
       (ap (λ (n : ℕ). round binary32 false n D) fraction-is)
 
 -- ---- every float from 0 to below 8192 has few digits
@@ -147,7 +162,18 @@ down-most m e f = leb→le (down e) (2 ^ 149) (third (eqb (suc m % 2) 1) (ltb (s
 
 few-zero : (e : ℤ) → T (fits binary32 (fin false 0 e)) → Few (0 * up e) (down e)
 unfolding fits
-few-zero (pos k) f = record { places = 0; places-most = lit≤ tt; power = refl; fraction-few = rw (mod-one) (lit< tt); digits = 0; above = 0; above-most = lit≤ tt; digits-few = lit< tt; is = zero-mul (2 ^ k) }
+few-zero (pos k) f =
+    record {
+      places = 0;
+      places-most = lit≤ tt;
+      power = refl;
+      fraction-few = rw (mod-one) (lit< tt);
+      digits = 0;
+      above = 0;
+      above-most = lit≤ tt;
+      digits-few = lit< tt;
+      is = zero-mul (2 ^ k);
+    }
 few-zero (negsuc k) f =
     let e : 1 * 2 ^ suc k ≡ 1 = eqb→eq (1 * 2 ^ suc k) 1 f in
     let l : 2 ^ 1 ≤ 2 ^ suc k = pow-mono {i = 1} {j = suc k} (omega arith) in

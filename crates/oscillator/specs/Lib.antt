@@ -1,3 +1,4 @@
+pub mod Bank
 pub mod Path
 pub mod Readings
 pub mod Sine

@@ -2,7 +2,7 @@
 -- The readings are over any element that has a float; `none` is what stands past a table's end, where nothing reads.
 use Prim.Native.Nat.{ℕ, _+_}
 use mathlib.Core.List.{List}
-use lib.IntN.{ℤ, pos}
+use lib.IntN.{ℤ}
 use lib.ListN.{getD}
 use lib.Ieee.{Float, binary32, ofInt}
 use Rattle.words.specs.Binary32.{_⊕_, _⊖_, _⊗_, decimal, ofCount}

@@ -3,12 +3,16 @@
 ghost use mathlib.Core.Path.{_≡_};
 ghost use mathlib.Core.Bool.{true};
 ghost use Prim.Native.Nat.{_≤_};
-ghost use lib.ListN.{length, take};
+ghost use mathlib.Core.List.{_++_};
+ghost use lib.ListN.{length, drop};
 ghost use lib.Ieee.{binary32, ofBits, lt};
 ghost use Rattle.words.specs.Binary32.{decimal};
 ghost use Rattle.utils.specs.Frames.{stateAfter, eachOf};
-ghost use Rattle.oscillator.specs.Path.{pathFresh, fast2Sin, limitedFrequency, limitedAmplitude, onCircle, quadratureOf, quadratureNext, quadratureOut, quadratureOut2, pathRun, pathRun2, pathAfter};
+ghost use Rattle.utils.specs.Rendered.{runLength};
+ghost use Rattle.oscillator.specs.Path.{pathFresh, fast2Sin, limitedFrequency, limitedAmplitude, onCircle};
+ghost use Rattle.oscillator.specs.Path.{quadratureOf, quadratureNext, quadratureOut, quadratureOut2, pathRun, pathRun2, pathAfter};
 ghost use Rattle.oscillator.specs.Sine.{sineOf};
+use utils::engine::RUN_LENGTH;
 use utils::parameter_interpolator::ParameterInterpolator;
 
 // The sine of a phase from 0 to below 8192: one whole part, of 512 times the phase.
@@ -69,19 +73,19 @@ impl FastSineOscillator {
         }
     }
 
-    // Sine and cosine, n samples of each, into two lent runs. The oscillator that comes back goes on from there.
+    // Sine and cosine, n samples of each, into the front of two lent runs. The oscillator that comes back goes on from there.
     pub fn render_quadrature(
         self,
         frequency: f32,
         amplitude: f32,
         n: usize,
-        out: &mut [f32; 256],
-        out_2: &mut [f32; 256],
+        out: &mut [f32; RUN_LENGTH],
+        out_2: &mut [f32; RUN_LENGTH],
     ) -> FastSineOscillator
-        requires { ⌜ n ≤ 256 ⌝ }
+        requires { ⌜ n ≤ runLength ⌝ }
         ensures { λ r. ⌜ r ≡ pathAfter self frequency amplitude n ⌝ }
-        ensures { λ _. ⌜ take n (now (out .exit)) ≡ pathRun self frequency amplitude n ⌝ }
-        ensures { λ _. ⌜ take n (now («out_2» .exit)) ≡ pathRun2 self frequency amplitude n ⌝ }
+        ensures { λ _. ⌜ now (out .exit) ≡ pathRun self frequency amplitude n ++ drop n (now (out .entry)) ⌝ }
+        ensures { λ _. ⌜ now («out_2» .exit) ≡ pathRun2 self frequency amplitude n ++ drop n (now («out_2» .entry)) ⌝ }
     {
         let q = Quadrature::new(self, frequency, amplitude, n).fill(n, out, out_2);
         FastSineOscillator {
@@ -135,8 +139,8 @@ impl Quadrature {
     fn fill(self, n: usize, out: &mut [f32], out_2: &mut [f32]) -> Quadrature
         requires { ⌜ (n ≤ length (now out)) × (n ≤ length (now «out_2»)) ⌝ }
         ensures { λ r. ⌜ r ≡ stateAfter quadratureNext n self ⌝ }
-        ensures { λ _. ⌜ take n (now (out .exit)) ≡ eachOf quadratureNext quadratureOut n self ⌝ }
-        ensures { λ _. ⌜ take n (now («out_2» .exit)) ≡ eachOf quadratureNext quadratureOut2 n self ⌝ }
+        ensures { λ _. ⌜ now (out .exit) ≡ eachOf quadratureNext quadratureOut n self ++ drop n (now (out .entry)) ⌝ }
+        ensures { λ _. ⌜ now («out_2» .exit) ≡ eachOf quadratureNext quadratureOut2 n self ++ drop n (now («out_2» .entry)) ⌝ }
     {
         let mut q = self;
         let mut i = 0;

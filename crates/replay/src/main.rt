@@ -8,6 +8,7 @@ ghost use Prim.Native.Nat.{_+_, _≤_, _<_};
 ghost use lib.ListN.{length};
 use libc::STDIN_FILENO;
 use libc::STDOUT_FILENO;
+use rows::Settings;
 use take::Answer;
 
 const BANK: usize = 25344;
@@ -128,14 +129,14 @@ fn print_number(n: u64) {
 // The two numbers of a call's success, or of its refusal.
 fn print_answer(answer: Answer) {
     match answer {
-        Answer::Done(rows, held) => {
-            print_number(rows as u64);
-            print_number(held as u64);
+        Answer::Done(report) => {
+            print_number(report.rows as u64);
+            print_number(report.holds.held as u64);
         }
-        Answer::Refused(number, place) => {
+        Answer::Refused(refusal) => {
             print(b" refused");
-            print_number(number as u64);
-            print_number(place as u64);
+            print_number(refusal.number as u64);
+            print_number(refusal.place as u64);
         }
     }
 }
@@ -145,6 +146,15 @@ fn print_take(out: &[u32], aux: &[u32], kept: &[u32]) {
     print_number(check(aux));
     print_number(check(kept));
     print(b"\n");
+}
+
+// A score's settings.
+fn settings(s: Score) -> Settings {
+    Settings {
+        instrument: s.instrument,
+        rate: s.rate,
+        frames: s.frames,
+    }
 }
 
 // The edit that stands at byte `at`, and its line.
@@ -170,9 +180,7 @@ fn edit_one(
         word(file, at + 20),
     ];
     let answer = take::edit(
-        s.instrument,
-        s.rate,
-        s.frames,
+        settings(s),
         bank,
         map,
         rows,
@@ -242,17 +250,7 @@ fn render_one(
     aux: &mut [u32],
     kept: &mut [u32],
 ) {
-    let answer = take::render(
-        s.instrument,
-        s.rate,
-        s.frames,
-        bank,
-        map,
-        rows,
-        out,
-        aux,
-        kept,
-    );
+    let answer = take::render(settings(s), bank, map, rows, out, aux, kept);
     print(b"render");
     print_answer(answer);
     print_take(out, aux, kept);

@@ -5,13 +5,15 @@ use Prim.Native.Nat.{ℕ}
 use Rattle.score.specs.declared.reader.ReadAnswer.{ReadAnswer}
 use Rattle.score.specs.Numbers as reader
 use Rattle.score.specs.Reading as reading
+use Rattle.rows.specs.Rows.{Take}
 use Rattle.take.specs.declared.Answer.{Answer}
-use Rattle.take.specs.Take.{Take, Result, resultOf, Outcome, outcome}
-use Rattle.retake_c.specs.Calls.{values, readResult, readBack, ofReading, called, ofCall}
+use Rattle.take.specs.Take.{resultOf, Outcome, outcome}
+use Rattle.retake_c.specs.Calls.{Given, given, givenOf, read, ofReading, called, ofCall}
 
-pub read-returns : (n f s : ℕ) (a : ReadAnswer) (rows : List ℕ) (o : reading.Outcome) → values n f s ≡ readResult (reader.resultOf a) → reading.outcome a rows ≡ o
-    → readBack (values n f s) rows ≡ ofReading o
-read-returns n f s a rows o v e = ap (λ (r : Result). readBack r rows) v ∙ ap (λ (p : reading.Outcome). ofReading p) e
+pub read-returns : (n f s : ℕ) (a : ReadAnswer) (rows : List ℕ) (o : reading.Outcome)
+    → given n f s ≡ givenOf (reader.resultOf a) → reading.outcome a rows ≡ o → read (given n f s) rows ≡ ofReading o
+read-returns n f s a rows o v e = ap (λ (r : Given). read r rows) v ∙ ap (λ (p : reading.Outcome). ofReading p) e
 
-pub call-returns : (n f s : ℕ) (a : Answer) (rows : List ℕ) (t : Take) (o : Outcome) → values n f s ≡ resultOf a → outcome a rows t ≡ o → called (values n f s) rows t ≡ ofCall o
-call-returns n f s a rows t o v e = ap (λ (r : Result). called r rows t) v ∙ ap (λ (p : Outcome). ofCall p) e
+pub call-returns : (n f s : ℕ) (a : Answer) (rows : List ℕ) (t : Take) (o : Outcome)
+    → given n f s ≡ givenOf (resultOf a) → outcome a rows t ≡ o → called (given n f s) rows t ≡ ofCall o
+call-returns n f s a rows t o v e = ap (λ (r : Given). called r rows t) v ∙ ap (λ (p : Outcome). ofCall p) e

@@ -1,39 +1,59 @@
--- What the C functions return and leave: the returned number, what is written to `first` and `second`, and the lent words. By the
--- definitions of reading, rendering and edits.
+-- What the C functions return and leave: the number, what is written to `first` and `second`, and the lent words, by the definitions of
+-- reading, rendering and edits.
 use Prim.Native.Nat.{ℕ}
-use mathlib.Core.List.{List}
-use Rattle.score.specs.Numbers.{success, refused}
+use mathlib.Core.List.{List, [], _∷_}
+use Rattle.score.specs.Numbers.{Result}
 use Rattle.score.specs.Numbers as reader
 use Rattle.score.specs.Reading as reading
-use Rattle.take.specs.Take.{Take, Result, done, resultOf, Outcome}
+use Rattle.rows.specs.declared.Settings.{Settings}
+use Rattle.rows.specs.Rows.{Take}
+use Rattle.take.specs.Take.{resultOf, Outcome}
 
--- "first and second are (row count, 0) for the reader .. or (place, 0) on a refusal"
-unfoldable pub readResult : reader.Result → Result
-readResult (success count) = done count 0
-readResult (refused number place) = record { number = number; first = place; second = 0 }
+-- The first of a call's values, 0 where there is none.
+unfoldable pub firstOf : List ℕ → ℕ
+firstOf [] = 0
+firstOf (value ∷ values) = value
 
-abbrev pub values : ℕ → ℕ → ℕ → Result
-values number first second = record { number = number; first = first; second = second }
+-- The second of a call's values, 0 where there is none.
+unfoldable pub secondOf : List ℕ → ℕ
+secondOf [] = 0
+secondOf (value ∷ values) = firstOf values
 
--- After reading: the numbers, and the lent row words.
+-- A call's result as a C function gives it: the number is returned, `first` and `second` are written.
+pub record Given : Type 0 where
+  pub number : ℕ
+  pub first : ℕ
+  pub second : ℕ
+
+abbrev pub given : ℕ → ℕ → ℕ → Given
+given number first second = record { number = number; first = first; second = second }
+
+unfoldable pub givenOf : Result → Given
+givenOf r = given (r .number) (firstOf (r .values)) (secondOf (r .values))
+
+-- The three numbers that stay the same from call to call.
+abbrev pub settings : ℕ → ℕ → ℕ → Settings
+settings instrument rate frames = record { instrument = instrument; rate = rate; frames = frames }
+
+-- After reading: the result, and the lent row words.
 pub record Read : Type 0 where
-  pub result : Result
+  pub result : Given
   pub rows : List ℕ
 
-abbrev pub readBack : Result → List ℕ → Read
-readBack result rows = record { result = result; rows = rows }
+abbrev pub read : Given → List ℕ → Read
+read result rows = record { result = result; rows = rows }
 
 abbrev pub ofReading : reading.Outcome → Read
-ofReading o = readBack (readResult (o .result)) (o .rows)
+ofReading o = read (givenOf (reader.resultOf (o .answer))) (o .rows)
 
--- After rendering or an edit: the numbers, "(rows rendered, held)" or "(place, 0)", the lent row words, and the lent take.
+-- After rendering or an edit: the result, the lent row words, and the lent take.
 pub record Called : Type 0 where
-  pub result : Result
+  pub result : Given
   pub rows : List ℕ
   pub left : Take
 
-abbrev pub called : Result → List ℕ → Take → Called
+abbrev pub called : Given → List ℕ → Take → Called
 called result rows t = record { result = result; rows = rows; left = t }
 
 abbrev pub ofCall : Outcome → Called
-ofCall o = called (resultOf (o .answer)) (o .score) (o .left)
+ofCall o = called (givenOf (resultOf (o .answer))) (o .score) (o .left)

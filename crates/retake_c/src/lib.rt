@@ -1,12 +1,16 @@
-// The C functions of the static library, declared in include/retake.h. Each returns 0 or the number of its refusal; `first` and `second`
-// get the row count and 0 (reader), the rows rendered and `held` (rendering, edit), or the place and 0.
+// The C functions of the static library, declared in include/retake.h. Each returns 0 or the number of its refusal and writes its values to
+// `first` and `second`: the row count and 0 (reader), the rows rendered and `held` (rendering, edit), the place and 0 (a refusal).
 ghost use mathlib.Core.Path.{_≡_};
 ghost use mathlib.Core.List.{_∷_, []};
+ghost use Rattle.score.specs.Numbers.{refused};
 ghost use Rattle.score.specs.Numbers as reader;
 ghost use Rattle.score.specs.Reading.{readOf};
-ghost use Rattle.take.specs.Take.{settings, lent, resultOf, renderOf, editOf};
-ghost use Rattle.retake_c.specs.Calls.{values, readResult, readBack, ofReading, called, ofCall};
+ghost use Rattle.rows.specs.Rows.{setup, lent};
+ghost use Rattle.take.specs.Take.{resultOf, renderOf, editOf};
+ghost use Rattle.retake_c.specs.Calls.{given, givenOf, settings, read, ofReading, called, ofCall};
+use rows::Settings;
 use score::reader::ReadAnswer;
+use score::refusal::Refusal;
 use take::Answer;
 
 // The number and the two values of an answer.
@@ -16,8 +20,19 @@ struct Values {
     second: u64,
 }
 
+// The number of a refusal, and its place.
+fn refused_values(refusal: Refusal) -> Values
+    ensures { λ r. ⌜ given (r .number) (r .first) (r .second) ≡ givenOf (refused refusal) ⌝ }
+{
+    Values {
+        number: refusal.number,
+        first: refusal.place as u64,
+        second: 0,
+    }
+}
+
 fn read_values(answer: ReadAnswer) -> Values
-    ensures { λ r. ⌜ values (r .number) (r .first) (r .second) ≡ readResult (reader.resultOf answer) ⌝ }
+    ensures { λ r. ⌜ given (r .number) (r .first) (r .second) ≡ givenOf (reader.resultOf answer) ⌝ }
 {
     match answer {
         ReadAnswer::Read(count) => Values {
@@ -25,28 +40,20 @@ fn read_values(answer: ReadAnswer) -> Values
             first: count as u64,
             second: 0,
         },
-        ReadAnswer::Refused(number, place) => Values {
-            number,
-            first: place as u64,
-            second: 0,
-        },
+        ReadAnswer::Refused(refusal) => refused_values(refusal),
     }
 }
 
 fn values_of(answer: Answer) -> Values
-    ensures { λ r. ⌜ values (r .number) (r .first) (r .second) ≡ resultOf answer ⌝ }
+    ensures { λ r. ⌜ given (r .number) (r .first) (r .second) ≡ givenOf (resultOf answer) ⌝ }
 {
     match answer {
-        Answer::Done(rows, held) => Values {
+        Answer::Done(report) => Values {
             number: 0,
-            first: rows as u64,
-            second: held as u64,
+            first: report.rows as u64,
+            second: report.holds.held as u64,
         },
-        Answer::Refused(number, place) => Values {
-            number,
-            first: place as u64,
-            second: 0,
-        },
+        Answer::Refused(refusal) => refused_values(refusal),
     }
 }
 
@@ -58,7 +65,9 @@ pub extern "C" fn retake_read_score(
     first: &mut u64,
     second: &mut u64,
 ) -> u32
-    ensures { λ r. ⌜ readBack (values r (now (first .exit)) (now (second .exit))) (now (rows .exit)) ≡ ofReading (readOf (now (text .entry)) (now (rows .entry))) ⌝ }
+    ensures { λ r. ⌜
+        read (given r (now (first .exit)) (now (second .exit))) (now (rows .exit))
+        ≡ ofReading (readOf (now (text .entry)) (now (rows .entry))) ⌝ }
 {
     let answer = score::reader::read(text, rows);
     let v = read_values(answer);
@@ -82,19 +91,18 @@ pub extern "C" fn retake_render(
     first: &mut u64,
     second: &mut u64,
 ) -> u32
-    ensures { λ r. ⌜ called (values r (now (first .exit)) (now (second .exit))) (now (rows .entry)) (lent (now (out .exit)) (now (aux .exit)) (now (kept .exit))) ≡ ofCall (renderOf (settings instrument rate frames (now (bank .entry)) (now (map .entry))) (now (rows .entry)) (lent (now (out .entry)) (now (aux .entry)) (now (kept .entry)))) ⌝ }
+    ensures { λ r. ⌜
+        called (given r (now (first .exit)) (now (second .exit))) (now (rows .entry))
+        (lent (now (out .exit)) (now (aux .exit)) (now (kept .exit)))
+        ≡ ofCall (renderOf (setup (settings instrument rate frames) (now (bank .entry)) (now (map .entry))) (now (rows .entry))
+        (lent (now (out .entry)) (now (aux .entry)) (now (kept .entry)))) ⌝ }
 {
-    let answer = take::render(
+    let settings = Settings {
         instrument,
         rate,
-        frames as usize,
-        bank,
-        map,
-        rows,
-        out,
-        aux,
-        kept,
-    );
+        frames: frames as usize,
+    };
+    let answer = take::render(settings, bank, map, rows, out, aux, kept);
     let v = values_of(answer);
     *first = v.first;
     *second = v.second;
@@ -122,13 +130,20 @@ pub extern "C" fn retake_edit(
     first: &mut u64,
     second: &mut u64,
 ) -> u32
-    ensures { λ r. ⌜ called (values r (now (first .exit)) (now (second .exit))) (now (rows .exit)) (lent (now (out .exit)) (now (aux .exit)) (now (kept .exit))) ≡ ofCall (editOf (settings instrument rate frames (now (bank .entry)) (now (map .entry))) (now (rows .entry)) position (note ∷ timbre ∷ morph ∷ harmonics ∷ restart ∷ []) (lent (now (out .entry)) (now (aux .entry)) (now (kept .entry)))) ⌝ }
+    ensures { λ r. ⌜
+        called (given r (now (first .exit)) (now (second .exit))) (now (rows .exit))
+        (lent (now (out .exit)) (now (aux .exit)) (now (kept .exit)))
+        ≡ ofCall (editOf (setup (settings instrument rate frames) (now (bank .entry)) (now (map .entry))) (now (rows .entry)) position
+        (note ∷ timbre ∷ morph ∷ harmonics ∷ restart ∷ []) (lent (now (out .entry)) (now (aux .entry)) (now (kept .entry)))) ⌝ }
 {
     let row = [note, timbre, morph, harmonics, restart];
-    let answer = take::edit(
+    let settings = Settings {
         instrument,
         rate,
-        frames as usize,
+        frames: frames as usize,
+    };
+    let answer = take::edit(
+        settings,
         bank,
         map,
         rows,

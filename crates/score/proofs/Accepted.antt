@@ -1,99 +1,137 @@
--- What an accepted score brings to rendering: 1 to 4,096 rows, lent words enough for them, and no row outside the limits.
+-- What an accepted score brings to rendering. Each of its lines was tested by its limits, and the rows that are left are those of its lines.
 use mathlib.Core.Path.{_≡_, refl, sym, ap, _∙_}
-use mathlib.Core.Bool.{Bool, true, false, _||_, cond}
+use mathlib.Core.Bool.{Bool, true, false, cond}
 use mathlib.Core.List.{List, [], _∷_, _++_, append-assoc}
 use Prim.Native.Nat.{ℕ, suc, _+_, _*_}
 use native.Mathlib.Omega.{arith}
-use borrow.Author.Tests.{eqb-true, eqb-false, ltb-false}
-use lib.Dec.{ltb, eqb}
-use lib.ListN.{length, take, drop, length-map}
+use borrow.Author.Tests.{eqb-true, eqb-false, le-ltb}
+use lib.Dec.{eqb}
+use lib.ListN.{length, drop, length-append, length-drop, length-map}
 use lib.Seq.{take-at, drop-at}
-use Rattle.score.specs.Limits.{rowWords, rowWithin, firstBad}
-use Rattle.score.specs.Numbers.{Result, success, refused, rowsNumber, limitNumber, spaceNumber}
-use Rattle.score.specs.Text.{Line, linesOf, firstOf, restOf, columnsBy, columnsOf, holdsNames, rowOf, rowsOf}
-use Rattle.score.specs.Reading.{lineNumber, testLines, testText, textRows, refuse, store, scoreNames, mostRows, settleScore, readOf, Accepted}
-use Rattle.score.proofs.Rows.{value, number-by-limit}
-use Rattle.score.proofs.Settling.{positive, five-names}
+use Rattle.score.specs.declared.table.Source.{Source}
+use Rattle.score.specs.declared.reader.ReadAnswer.{ReadAnswer}
+use Rattle.score.specs.declared.reader.ReadAnswer.the-variants.{Read, Refused}
+use Rattle.score.specs.Numbers.{limitNumber, namesNumber}
+use Rattle.score.specs.Rows.{rowWords}
+use Rattle.score.specs.Limits.{rowWithin, firstBad, badRefusal, limitRefusal}
+use Rattle.score.specs.Text.{Line, linesOf, firstOf, restOf, sourcesOf, sourcesBy, namesOn, holdsNames, rowOf, rowsOf}
+use Rattle.score.specs.Reading.{refusedAt, lineNumber, testLines, testText, textRows, countNumber, settle, readText, scoreTable, readOf, Outcome, Accepted}
+use Rattle.score.proofs.Values.{value, number-by-limit}
 use Rattle.score.proofs.Storing.{same-count, not-both}
+use Rattle.score.proofs.Settling.{room, row-count, settle-refused, settle-count, settle-stored}
+
+-- ---- lines
 
 -- a line that no number refuses has a row within the limits
-within : (count : ℕ) (columns : List ℕ) (line : Line) → lineNumber count columns true line ≡ 0 → rowWithin (rowOf columns line) ≡ true
-within count columns line e = go (rowWithin (rowOf columns line)) refl (sym (number-by-limit count columns line (value count columns line true e) true refl) ∙ e)
+within : (n : ℕ) (sources : List Source) (line : Line) → lineNumber n sources true line ≡ 0 → rowWithin (rowOf sources line) ≡ true
+within n sources line e = go (rowWithin (rowOf sources line)) (sym (number-by-limit n sources line (value n sources line true e) true refl) ∙ e)
   where
-    go : (b : Bool) → rowWithin (rowOf columns line) ≡ b → cond b 0 limitNumber ≡ 0 → b ≡ true
-    go true h f = refl
-    go false h f = absurd (omega arith)
+    go : (b : Bool) → cond b 0 limitNumber ≡ 0 → b ≡ true
+    go true f = refl
+    go false f = absurd (omega arith)
 
-row-long : (columns : List ℕ) (line : Line) → length (rowOf columns line) ≡ length columns
-unfolding rowOf
-row-long columns line = length-map columns _
+-- What lines that pass come to, where n is the number of the first and c that of the lines in all.
+record Good (sources : List Source) (lines : List Line) (rest : List ℕ) (at c : ℕ) : Type 0 where
+  count : c ≡ at + length lines
+  long : length (rowsOf sources lines) ≡ rowWords * length lines
+  none : firstBad (length lines) (rowsOf sources lines ++ rest) ≡ length lines
 
--- so no row of lines that pass is bad
-none-bad : (columns : List ℕ) → length columns ≡ rowWords → (lines : List Line) (rest : List ℕ) (at n : ℕ) → testLines rowWords columns true at lines ≡ success n
-    → (n ≡ at + length lines) × (firstBad (length lines) (rowsOf columns lines ++ rest) ≡ length lines)
-unfolding testLines rowsOf firstBad
-none-bad columns five [] rest at n e = (let q = same-count at n e in omega arith, refl)
-none-bad columns five (line ∷ lines) rest at n e =
-    go (eqb (lineNumber rowWords columns true line) 0) refl e (none-bad columns five lines rest (suc at) n)
-  where
-    go : (b : Bool) → eqb (lineNumber rowWords columns true line) 0 ≡ b → cond b (testLines rowWords columns true (suc at) lines) (refused (lineNumber rowWords columns true line) at) ≡ success n
-        → (testLines rowWords columns true (suc at) lines ≡ success n → (n ≡ suc at + length lines) × (firstBad (length lines) (rowsOf columns lines ++ rest) ≡ length lines))
-        → (n ≡ at + suc (length lines)) × (cond (rowWithin (take rowWords (rowOf columns line ++ rowsOf columns lines ++ rest))) (suc (firstBad (length lines) (drop rowWords (rowOf columns line ++ rowsOf columns lines ++ rest)))) 0 ≡ suc (length lines))
-    go true f e g =
-        let p = g e in
-        let long = row-long columns line ∙ five in (
-          omega (arith, p .0),
-          rw (append-assoc, take-at (rowOf columns line) (rowsOf columns lines ++ rest) rowWords long, drop-at (rowOf columns line) (rowsOf columns lines ++ rest) rowWords long, within rowWords columns line (eqb-true _ 0 f)) (ap suc (p .1)),
-        )
-    go false f e g = absurd (not-both _ at n e)
+module _ (n : ℕ) (sources : List Source) (five : length sources ≡ rowWords) where
+  row-long : (line : Line) → length (rowOf sources line) ≡ rowWords
+  unfolding rowOf
+  row-long line = length-map sources _ ∙ five
 
-columns-long : (names : List (List ℕ)) (lines : List Line) → length (columnsBy names lines) ≡ length names
-unfolding columnsOf
-columns-long names lines = length-map names _
+  one-more : (line : Line) (lines : List Line) (rest : List ℕ) (at c : ℕ) → rowWithin (rowOf sources line) ≡ true → Good sources lines rest (suc at) c → Good sources (line ∷ lines) rest at c
+  unfolding rowsOf firstBad
+  one-more line lines rest at c w g =
+      let row = rowOf sources line in
+      let later = rowsOf sources lines ++ rest in
+      let l = row-long line in
+      record {
+        count = omega (arith, g .count);
+        long = length-append row (rowsOf sources lines) ∙ omega (arith, g .long);
+        none = rw (append-assoc, take-at row later rowWords l, drop-at row later rowWords l, w) (ap suc (g .none));
+      }
 
--- a text that passes, and its rows
-text-within : (lines : List Line) (rest : List ℕ) (n : ℕ) → testText scoreNames true lines ≡ success n → firstBad n (textRows scoreNames lines ++ rest) ≡ n
-unfolding testText textRows
-text-within lines rest n e = go (holdsNames scoreNames (firstOf lines)) e
-  where
-    go : (b : Bool) → cond b (testLines (length scoreNames) (columnsBy scoreNames lines) true 0 (restOf lines)) (refused 10 0) ≡ success n
-        → firstBad n (rowsOf (columnsBy scoreNames lines) (restOf lines) ++ rest) ≡ n
-    go true e =
-        let p = none-bad (columnsBy scoreNames lines) (columns-long scoreNames lines ∙ five-names) (restOf lines) rest 0 n (ap (λ (c : ℕ). testLines c (columnsBy scoreNames lines) true 0 (restOf lines)) (sym five-names) ∙ e) in
-        let q : n ≡ length (restOf lines) = omega (arith, p .0) in
-        rw q (p .1)
-    go false e = absurd (not-both 10 0 n e)
-
-module _ (lines : List Line) (lent : List ℕ) (n : ℕ) where
-  stored : (c : ℕ) → testText scoreNames true lines ≡ success c → eqb c 0 ≡ false → ltb mostRows c ≡ false
-      → store rowWords c (textRows scoreNames lines) lent .result ≡ success n → Accepted n lent (store rowWords c (textRows scoreNames lines) lent .rows)
-  unfolding store
-  stored c t z m e = go (ltb (length lent) (rowWords * c)) refl e
+  all-good : (lines : List Line) (rest : List ℕ) (at c : ℕ) → testLines n sources true at lines ≡ Read c → Good sources lines rest at c
+  unfolding testLines rowsOf firstBad
+  all-good [] rest at c e = record { count = omega (arith, same-count at c e); long = refl; none = refl }
+  all-good (line ∷ lines) rest at c e = go (eqb (lineNumber n sources true line) 0) refl e (all-good lines rest (suc at) c)
     where
-      go : (b : Bool) → ltb (length lent) (rowWords * c) ≡ b
-          → cond b (refuse spaceNumber 0 lent) (record { result = success c; rows = textRows scoreNames lines ++ drop (rowWords * c) lent }) .result ≡ success n
-          → Accepted n lent (cond b (refuse spaceNumber 0 lent) (record { result = success c; rows = textRows scoreNames lines ++ drop (rowWords * c) lent }) .rows)
-      go true b e = absurd (not-both spaceNumber 0 n e)
-      go false b e =
-          rw (sym (same-count c n e))
-          (record {
-            some = positive c (eqb-false c 0 z);
-            few = ltb-false mostRows c m;
-            space = ltb-false (length lent) (rowWords * c) b;
-            good = text-within lines (drop (rowWords * c) lent) c t;
-          })
+      go : (b : Bool) → eqb (lineNumber n sources true line) 0 ≡ b
+          → cond b (testLines n sources true (suc at) lines) (refusedAt (lineNumber n sources true line) at) ≡ Read c
+          → (testLines n sources true (suc at) lines ≡ Read c → Good sources lines rest (suc at) c) → Good sources (line ∷ lines) rest at c
+      go true f e g = one-more line lines rest at c (within n sources line (eqb-true _ 0 f)) (g e)
+      go false f e g = absurd (not-both _ at c e)
 
-  settled : (r : Result) → testText scoreNames true lines ≡ r → settleScore r (textRows scoreNames lines) lent .result ≡ success n → Accepted n lent (settleScore r (textRows scoreNames lines) lent .rows)
-  unfolding settleScore
-  settled (refused number place) t e = absurd (not-both number place n e)
-  settled (success c) t e = go (eqb c 0) (ltb mostRows c) refl refl e
+-- ---- a text
+
+module _ (lines : List Line) where
+  abbrev sources : List Source
+  sources = sourcesBy scoreTable lines
+
+  five-sources : length sources ≡ rowWords
+  unfolding sourcesOf scoreTable
+  five-sources = refl
+
+  text-good : (rest : List ℕ) (c : ℕ) → testText scoreTable true lines ≡ Read c → Good sources (restOf lines) rest 0 c
+  unfolding testText
+  text-good rest c e = go (holdsNames scoreTable (firstOf lines)) e
     where
-      go : (z m : Bool) → eqb c 0 ≡ z → ltb mostRows c ≡ m → cond (z || m) (refuse rowsNumber 0 lent) (store rowWords c (textRows scoreNames lines) lent) .result ≡ success n
-          → Accepted n lent (cond (z || m) (refuse rowsNumber 0 lent) (store rowWords c (textRows scoreNames lines) lent) .rows)
-      go true m p q e = absurd (not-both rowsNumber 0 n e)
-      go false true p q e = absurd (not-both rowsNumber 0 n e)
-      go false false p q e = stored c t p q e
+      go : (b : Bool) → cond b (testLines (namesOn lines) sources true 0 (restOf lines)) (refusedAt namesNumber 0) ≡ Read c → Good sources (restOf lines) rest 0 c
+      go true e = all-good (namesOn lines) sources five-sources (restOf lines) rest 0 c e
+      go false e = absurd (not-both namesNumber 0 c e)
 
-pub accepted : (text lent : List ℕ) (n : ℕ) → readOf text lent .result ≡ success n → Accepted n lent (readOf text lent .rows)
-unfolding readOf
-accepted text lent n e = settled (linesOf text) lent n (testText scoreNames true (linesOf text)) refl e
+  module _ (lent : List ℕ) (c : ℕ) where
+    abbrev rows : List ℕ
+    rows = textRows scoreTable lines
+
+    abbrev left : List ℕ
+    left = rows ++ drop (rowWords * c) lent
+
+    left-good : testText scoreTable true lines ≡ Read c → countNumber true rowWords c (length lent) ≡ 0 → Accepted c lent left
+    unfolding textRows limitRefusal badRefusal
+    left-good t n =
+        let rest = drop (rowWords * c) lent in
+        let g = text-good rest c t in
+        let space = room true rowWords c (length lent) n in
+        let most = row-count rowWords c (length lent) n in
+        let all : c ≡ length (restOf lines) = omega (arith, g .count) in
+        let none : firstBad c (rowsOf sources (restOf lines) ++ rest) ≡ c = rw (sym all) at (g .none) in
+        record {
+          some = most .0;
+          few = most .1;
+          space = space;
+          long = length-append (rowsOf sources (restOf lines)) rest ∙ omega (arith, g .long, length-drop (rowWords * c) lent);
+          passes = rw (none, le-ltb c c (omega arith));
+        }
+
+  -- Whatever settles the text, success is of rows that were tested.
+  module _ (lent : List ℕ) (c : ℕ) (r : ReadAnswer) (t : testText scoreTable true lines ≡ r) where
+    abbrev settled : Outcome
+    settled = settle true rowWords r (rows lent c) lent
+
+    settled-good : settled .answer ≡ Read c → Accepted c lent (settled .rows)
+    settled-good = go r refl
+      where
+        go : (q : ReadAnswer) → r ≡ q → settled .answer ≡ Read c → Accepted c lent (settled .rows)
+        go (Refused q) k e =
+            let s = settle-refused true rowWords (rows lent c) lent r q k in
+            absurd (not-both (q .number) (q .place) c (rw (sym s) at e))
+        go (Read a) k e = go-on (eqb number 0) refl
+          where
+            number : ℕ
+            number = countNumber true rowWords a (length lent)
+
+            go-on : (b : Bool) → eqb number 0 ≡ b → Accepted c lent (settled .rows)
+            go-on true z =
+                let s = settle-stored true rowWords (rows lent c) lent r a number k refl (eqb-true number 0 z) in
+                let m : a ≡ c = same-count a c (rw (sym s) at e) in
+                rw (sym s, m) (left-good lent c (t ∙ k ∙ ap Read m) (rw m at (eqb-true number 0 z)))
+            go-on false z =
+                let s = settle-count true rowWords (rows lent c) lent r a number k refl (eqb-false number 0 z) in
+                absurd (not-both number 0 c (rw (sym s) at e))
+
+pub accepted-passes : (text lent : List ℕ) (count : ℕ) → readOf text lent .answer ≡ Read count → Accepted count lent (readOf text lent .rows)
+unfolding readOf readText scoreTable
+accepted-passes text lent count e = settled-good (linesOf text) lent count (testText scoreTable true (linesOf text)) refl e

@@ -8,7 +8,7 @@ use native.Mathlib.Omega.{arith}
 use borrow.Author.Tests.{leb-true, eqb-true}
 use lib.Dec.{leb, eqb}
 use lib.ListN.{length, getD, take, drop, length-drop}
-use lib.Seq.{drop-cons, take-add, drop-drop}
+use lib.Seq.{drop-cons, take-add, drop-drop, length-take-le}
 use Rattle.score.specs.Text.{between, isDigit, digitOf, eachDigit, wordDigits, isWord, followedBy, wordOf}
 use Rattle.score.proofs.Cases.{both, and-true}
 
@@ -45,13 +45,14 @@ long-enough zero l e = zero-le
 long-enough (suc n) [] e = absurd (omega arith)
 long-enough (suc n) (x ∷ l) e = suc-le-suc (long-enough n l (omega arith))
 
-each-digit-of : (a b : List ℕ) → eachDigit (a ++ b) ≡ true → (eachDigit a ≡ true) × (eachDigit b ≡ true)
+each-digit-of : (a b : List ℕ) → eachDigit (a ++ b) ≡ eachDigit a && eachDigit b
 unfolding eachDigit
-each-digit-of [] b e = (refl, e)
-each-digit-of (x ∷ a) b e =
-    let p = both (isDigit x) (eachDigit (a ++ b)) e in
-    let q = each-digit-of a b (p .1) in
-    (rw (p .0) (q .0), q .1)
+each-digit-of [] b = refl
+each-digit-of (x ∷ a) b = go (isDigit x) (each-digit-of a b)
+  where
+    go : (t : Bool) → eachDigit (a ++ b) ≡ eachDigit a && eachDigit b → t && eachDigit (a ++ b) ≡ (t && eachDigit a) && eachDigit b
+    go true e = e
+    go false e = refl
 
 followed : (number : ℕ) (a b : List ℕ) → followedBy number (a ++ b) ≡ followedBy (followedBy number a) b
 unfolding followedBy
@@ -59,15 +60,25 @@ followed number [] b = refl
 followed number (x ∷ a) b = followed _ a b
 
 module _ (text : List ℕ) (at : ℕ) where
-  pub word-by-digits : at + wordDigits ≤ length text
-      → isDigit (getD text at 0)
-      && (isDigit (getD text (at + 1) 0) && (isDigit (getD text (at + 2) 0) && (isDigit (getD text (at + 3) 0) && (isDigit (getD text (at + 4) 0) && (isDigit (getD text (at + 5) 0) && (isDigit (getD text (at + 6) 0) && isDigit (getD text (at + 7) 0)))))))
-      ≡ isWord (take wordDigits (drop at text))
-  unfolding isWord eachDigit
-  word-by-digits h = rw (is-run wordDigits text at h, add-zero, and-true)
+  pub half-by-digits : at + 4 ≤ length text
+      → isDigit (getD text at 0) && (isDigit (getD text (at + 1) 0) && (isDigit (getD text (at + 2) 0) && isDigit (getD text (at + 3) 0)))
+      ≡ eachDigit (take 4 (drop at text))
+  unfolding eachDigit
+  half-by-digits h = rw (is-run 4 text at h, add-zero, and-true)
+
+  halves : take wordDigits (drop at text) ≡ take 4 (drop at text) ++ take 4 (drop (at + 4) text)
+  halves = take-add 4 4 (drop at text) ∙ ap (λ (l : List ℕ). take 4 (drop at text) ++ take 4 l) (drop-drop 4 at text)
+
+  pub word-by-halves : at + wordDigits ≤ length text
+      → eachDigit (take 4 (drop at text)) && eachDigit (take 4 (drop (at + 4) text)) ≡ isWord (take wordDigits (drop at text))
+  unfolding isWord
+  word-by-halves h =
+      let long = length-take-le wordDigits (drop at text) (omega (arith, length-drop at text)) in
+      rw (long, halves) (sym (each-digit-of (take 4 (drop at text)) (take 4 (drop (at + 4) text))))
 
   module _ (h : at + 4 ≤ length text) (e : eachDigit (take 4 (drop at text)) ≡ true) where
-    pub four-digits : (isDigit (getD text at 0) ≡ true) × (isDigit (getD text (at + 1) 0) ≡ true) × (isDigit (getD text (at + 2) 0) ≡ true) × (isDigit (getD text (at + 3) 0) ≡ true)
+    pub four-digits : (isDigit (getD text at 0) ≡ true) × (isDigit (getD text (at + 1) 0) ≡ true)
+        × (isDigit (getD text (at + 2) 0) ≡ true) × (isDigit (getD text (at + 3) 0) ≡ true)
     unfolding eachDigit
     four-digits =
         let p = both _ _ (rw (is-run 4 text at h, add-zero) at e) in
@@ -76,7 +87,8 @@ module _ (text : List ℕ) (at : ℕ) where
         (p .0, q .0, r .0, both _ _ (r .1) .0)
 
   pub four-value : at + 4 ≤ length text
-      → digitOf (getD text at 0) * 4096 + digitOf (getD text (at + 1) 0) * 256 + digitOf (getD text (at + 2) 0) * 16 + digitOf (getD text (at + 3) 0) ≡ wordOf (take 4 (drop at text))
+      → digitOf (getD text at 0) * 4096 + digitOf (getD text (at + 1) 0) * 256 + digitOf (getD text (at + 2) 0) * 16 + digitOf (getD text (at + 3) 0)
+      ≡ wordOf (take 4 (drop at text))
   unfolding wordOf followedBy
   four-value h = rw (is-run 4 text at h, add-zero) (omega arith)
 
@@ -89,15 +101,16 @@ module _ (text : List ℕ) (at : ℕ) (e : isWord (take wordDigits (drop at text
   unfolding isWord
   word-fits = omega (arith, long-enough wordDigits (drop at text) (eqb-true _ _ (both _ _ e .0)), length-drop at text)
 
-  halves : take wordDigits (drop at text) ≡ take 4 (drop at text) ++ take 4 (drop (at + 4) text)
-  halves = take-add 4 4 (drop at text) ∙ ap (λ (l : List ℕ). take 4 (drop at text) ++ take 4 l) (drop-drop 4 at text)
-
   pub half-digits : (eachDigit (take 4 (drop at text)) ≡ true) × (eachDigit (take 4 (drop (at + 4) text)) ≡ true)
   unfolding isWord
-  half-digits = each-digit-of _ _ (ap eachDigit (sym halves) ∙ both (eqb (length (take wordDigits (drop at text))) wordDigits) _ e .1)
+  half-digits =
+      let low = take 4 (drop at text) in
+      let high = take 4 (drop (at + 4) text) in
+      both (eachDigit low) (eachDigit high)
+      (sym (each-digit-of low high) ∙ ap eachDigit (sym (halves text at)) ∙ both (eqb (length (take wordDigits (drop at text))) wordDigits) _ e .1)
 
   pub word-of-halves : wordOf (take 4 (drop at text)) * 65536 + wordOf (take 4 (drop (at + 4) text)) ≡ wordOf (take wordDigits (drop at text))
   unfolding wordOf
   word-of-halves =
       after-four text (at + 4) (wordOf (take 4 (drop at text))) (omega (arith, word-fits))
-      ∙ sym (ap wordOf halves ∙ followed 0 (take 4 (drop at text)) (take 4 (drop (at + 4) text)))
+      ∙ sym (ap wordOf (halves text at) ∙ followed 0 (take 4 (drop at text)) (take 4 (drop (at + 4) text)))

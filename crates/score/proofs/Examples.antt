@@ -1,15 +1,19 @@
 -- Document 01's own limits and texts, by the definitions: each fact is a computation.
 use mathlib.Core.Path.{_≡_, refl}
 use mathlib.Core.Bool.{true, false}
-use mathlib.Core.List.{List, [], _∷_}
+use mathlib.Core.List.{List, [], _∷_, _++_}
 use Prim.Native.Nat.{ℕ}
 use lib.ListN.{replicate}
 use lib.Ieee.{ofBits, le}
 use Rattle.words.specs.Binary32.{decimal}
-use Rattle.score.specs.Limits.{note, timbre, restart, floatTo, limit, rowWithin}
-use Rattle.score.specs.Numbers.{success}
-use Rattle.score.specs.Text.{bytes, split, linesOf, same, columnOf, columnsOf, eachBelow, holdsNames, isDigit, digitOf, eachDigit, isWord, followedBy, wordOf, eachWord, holdsWords, rowOf, rowsOf}
-use Rattle.score.specs.Reading.{lineNumber, testLines, testText, textRows, refuse, store, scoreNames, settleScore, readOf, editNames, settleEdits, readEditsOf}
+use Rattle.words.specs.Lists.{same}
+use Rattle.score.specs.Rows.{note, timbre, restart}
+use Rattle.score.specs.Limits.{floatTo, limit, rowWithin}
+use Rattle.score.specs.declared.reader.ReadAnswer.the-variants.{Read}
+use Rattle.score.specs.Numbers.{refusal}
+use Rattle.score.specs.Text.{bytes, split, linesOf, columnOf, sourcesOf, eachReadable, columnCount, eachOnce, holdsNames}
+use Rattle.score.specs.Text.{isDigit, digitOf, eachDigit, isWord, followedBy, wordOf, eachWord, holdsWords, rowOf, rowsOf}
+use Rattle.score.specs.Reading.{outcome, lineNumber, testLines, testText, textRows, refuse, countNumber, settle, readText, scoreTable, readOf, editTable, readEditsOf}
 
 -- "42f00000 is note 120"; "3f800000 passes as timbre, 3f800001 gives 9"; "-0 passes, NaN doesn't"; "restart the whole number 0 or 1"
 pub limits : (limit note 0x42f00000 ≡ true) × (limit note 0x42f00001 ≡ false) × (limit timbre 0x3f800000 ≡ true) × (limit timbre 0x3f800001 ≡ false)
@@ -27,7 +31,8 @@ score =
 
 abbrev edits : List ℕ
 edits =
-    bytes "row note timbre morph harmonics restart\n00000001 42700000 3f800000 00000000 00000000 00000000\n00000000 42700000 3f800000 00000000 00000000 00000001\n00000002 42700000 3f000000 00000000 00000000 00000001\n"
+    bytes "row note timbre morph harmonics restart\n00000001 42700000 3f800000 00000000 00000000 00000000\n"
+    ++ bytes "00000000 42700000 3f800000 00000000 00000000 00000001\n00000002 42700000 3f000000 00000000 00000000 00000001\n"
 
 abbrev note60 : ℕ
 note60 = 0x42700000
@@ -39,8 +44,9 @@ abbrev one : ℕ
 one = 0x3f800000
 
 -- "empty text gives 10; names alone give 6"; the program's score and edits
-pub texts : (readOf [] lent ≡ refuse 10 0 lent) × (readOf (bytes "timbre note morph harmonics restart\n") lent ≡ refuse 6 0 lent)
-    × (readOf score lent ≡ record { result = success 3; rows = note60 ∷ 0 ∷ 0 ∷ 0 ∷ 1 ∷ note60 ∷ half ∷ 0 ∷ 0 ∷ 0 ∷ note60 ∷ half ∷ 0 ∷ 0 ∷ 1 ∷ 7 ∷ 7 ∷ 7 ∷ 7 ∷ [] })
-    × (readEditsOf edits lent ≡ record { result = success 3; rows = 1 ∷ note60 ∷ one ∷ 0 ∷ 0 ∷ 0 ∷ 0 ∷ note60 ∷ one ∷ 0 ∷ 0 ∷ 1 ∷ 2 ∷ note60 ∷ half ∷ 0 ∷ 0 ∷ 1 ∷ 7 ∷ [] })
-unfolding readOf readEditsOf scoreNames editNames settleScore settleEdits testText textRows testLines lineNumber store split linesOf same columnOf columnsOf eachBelow holdsNames isDigit digitOf eachDigit isWord followedBy wordOf eachWord holdsWords rowOf rowsOf rowWithin limit floatTo decimal ofBits le
+pub texts : (readOf [] lent ≡ refuse (refusal 10 0) lent) × (readOf (bytes "timbre note morph harmonics restart\n") lent ≡ refuse (refusal 6 0) lent)
+    × (readOf score lent ≡ outcome (Read 3) (note60 ∷ 0 ∷ 0 ∷ 0 ∷ 1 ∷ note60 ∷ half ∷ 0 ∷ 0 ∷ 0 ∷ note60 ∷ half ∷ 0 ∷ 0 ∷ 1 ∷ 7 ∷ 7 ∷ 7 ∷ 7 ∷ []))
+    × (readEditsOf edits lent ≡ outcome (Read 3) (1 ∷ note60 ∷ one ∷ 0 ∷ 0 ∷ 0 ∷ 0 ∷ note60 ∷ one ∷ 0 ∷ 0 ∷ 1 ∷ 2 ∷ note60 ∷ half ∷ 0 ∷ 0 ∷ 1 ∷ 7 ∷ []))
+unfolding readOf readEditsOf readText scoreTable editTable settle testText textRows testLines lineNumber countNumber split linesOf same columnOf sourcesOf eachReadable columnCount eachOnce holdsNames
+    isDigit digitOf eachDigit isWord followedBy wordOf eachWord holdsWords rowOf rowsOf rowWithin limit floatTo decimal ofBits le
 texts = (refl, refl, refl, refl)

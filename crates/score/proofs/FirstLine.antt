@@ -5,13 +5,10 @@ use mathlib.Core.Bool.{Bool, true, false, cond}
 use Prim.Native.Nat.{ℕ, suc, _+_, _≤_, _<_}
 use native.Mathlib.Numerals.{add-one}
 use native.Mathlib.Omega.{arith}
-use borrow.Author.Tests.{lt-ltb, le-ltb, eq-eqb, ne-eqb}
 use lib.Dec.{eqb}
 use lib.ListN.{length, take, drop, drop-of-length-le}
 use lib.Seq.{take-all, drop-cons}
-use Rattle.score.specs.declared.header.Header.{Header}
-use Rattle.score.specs.Text.{lf, onFirst, split, ended, unended, lined, linesOf, firstOf, restOf, fieldsOf, columnsOf, eachBelow, holdsNames}
-use Rattle.score.specs.Inner.{Headed}
+use Rattle.score.specs.Text.{lf, onFirst, split, ended, unended, lined, linesOf, firstOf, restOf}
 use Rattle.score.proofs.Split.{reach, first-piece}
 
 lined-ended : (p q : List ℕ) (qs ps : List (List ℕ)) → ps ≡ q ∷ qs → lined (p ∷ ps) ≡ ended p ∷ lined ps
@@ -60,38 +57,3 @@ some-line (b ∷ text) h = go (eqb b lf)
 pub no-line : linesOf [] ≡ []
 unfolding linesOf split
 no-line = refl
-
--- ---- the line of names
-module _ (names : List (List ℕ)) (text : List ℕ) (header : Header) where
-  not-headed : header .next ≡ 0 → holdsNames names (firstOf (linesOf text)) ≡ false → Headed names text header
-  not-headed n e = record { holds = e ∙ sym (le-ltb 0 (header .next) (omega arith)); inside = omega arith; lines = λ l. absurd (omega arith); columns = λ l. absurd (omega arith) }
-
-  pub no-lf : header .next ≡ 0 → length text ≤ reach lf text → Headed names text header
-  unfolding holdsNames
-  no-lf n h = not-headed n (rw (open-line text h))
-
-  module _ (end : ℕ) (e : end ≡ reach lf text) (h : end < length text) where
-    on-first-line : holdsNames names (firstOf (linesOf text)) ≡ holdsNames names (ended (take end text))
-    on-first-line = rw (first-line text end e h)
-
-    pub other-count : header .next ≡ 0 → (length (fieldsOf (take end text)) ≡ length names → ⊥) → Headed names text header
-    unfolding holdsNames
-    other-count n d = not-headed n (on-first-line ∙ rw (ne-eqb (length (fieldsOf (take end text))) (length names) d))
-
-    module _ (columns : List ℕ) (count : ℕ) (p : count ≡ length (fieldsOf (take end text))) (q : count ≡ length names)
-        (c : columnsOf names (fieldsOf (take end text)) ≡ take (length names) columns) where
-      holds-by-columns : holdsNames names (ended (take end text)) ≡ eachBelow count (take count columns)
-      unfolding holdsNames
-      holds-by-columns = rw (sym p, c, sym q, eq-eqb count count refl)
-
-      pub name-missing : header .next ≡ 0 → eachBelow count (take count columns) ≡ false → Headed names text header
-      name-missing n b = not-headed n (on-first-line ∙ holds-by-columns ∙ b)
-
-      pub headed : header .next ≡ end + 1 → header .columns ≡ columns → eachBelow count (take count columns) ≡ true → Headed names text header
-      headed n k b =
-          record {
-            holds = on-first-line ∙ holds-by-columns ∙ b ∙ sym (lt-ltb 0 (header .next) (omega arith));
-            inside = omega arith;
-            lines = λ l. rw (first-line text end e h, n);
-            columns = λ l. rw (first-line text end e h, k) c;
-          }

@@ -3,7 +3,8 @@ use mathlib.Core.Path.{_≡_, refl, sym, ap, _∙_, subst}
 use mathlib.Core.Logic.{⊎-elim}
 use mathlib.Core.Bool.{Bool, true, false, _&&_, _||_, cond, true≢false, false≢true}
 use Prim.Native.Nat.{ℕ, zero, suc, _+_, _*_, _/_, _%_, _^_, _≤_, _<_}
-use native.Mathlib.Nat.{eq-or-lt-of-le, mul-lt-mul-of-pos-right, mul-le-mul-left, mul-le-mul-right, le-of-mul-le-mul-right, pow-suc, mod-eq-of-lt, lt-irrefl, lt-of-lt-of-le, le-trans, le-of-eq, le-of-lt, zero-mul, mul-pos}
+use native.Mathlib.Nat.{mul-lt-mul-of-pos-right, mul-le-mul-left, mul-le-mul-right, le-of-mul-le-mul-right, pow-suc, mod-eq-of-lt, zero-mul, mul-pos}
+use native.Mathlib.Nat.{eq-or-lt-of-le, lt-irrefl, lt-of-lt-of-le, le-trans, le-of-eq, le-of-lt}
 use native.Mathlib.Omega.{arith}
 use borrow.Author.Tests.{le-leb, lt-leb, ne-eqb, eq-eqb, lt-ltb, le-ltb}
 use lib.IntN.{pos}

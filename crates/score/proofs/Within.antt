@@ -2,18 +2,19 @@
 use mathlib.Core.Path.{_≡_, refl, sym, ap, _∙_, subst}
 use mathlib.Core.Logic.{⊎-elim}
 use mathlib.Core.Bool.{true, false, _&&_, _||_, cond}
-use mathlib.Core.List.{List, [], _∷_}
-use lib.ListN.{take, drop, getD}
-use lib.Seq.{drop-drop, getD-take, getD-drop}
+use mathlib.Core.List.{List}
+use lib.ListN.{drop}
+use lib.Seq.{drop-drop}
 use Prim.Native.Nat.{ℕ, zero, suc, _+_, _-_, _*_, _^_, _≤_, _<_, zero-le}
-use native.Mathlib.Nat.{eq-or-lt-of-le, add-zero}
+use native.Mathlib.Nat.{eq-or-lt-of-le}
 use native.Mathlib.Omega.{arith}
 use borrow.Author.Tests.{lt-leb, ne-eqb}
-use lib.Dec.{leb, eqb, leb·zero, lit<}
+use lib.Dec.{leb, eqb, leb·zero}
 use lib.IntN.{pos}
 use lib.Ieee.{fin, binary32, ofBits, le}
 use Rattle.words.specs.Binary32.{decimal}
-use Rattle.score.specs.Limits.{rowWords, floatTo, limit, rowWithin, firstBad}
+use Rattle.score.specs.Rows.{rowWords, rowAt, note, timbre, morph, harmonics, restart, wordFor}
+use Rattle.score.specs.Limits.{floatTo, limit, rowWithin, firstBad}
 use Rattle.score.proofs.Cases.{le-or-lt, and-false}
 use Rattle.score.proofs.Order.{word-size, finite-word, words-order, past-finite, minus-zero, below-zero}
 
@@ -52,21 +53,14 @@ restart-word (suc zero) = refl
 restart-word (suc (suc w)) = rw (lt-leb (suc (suc w)) 1 (omega arith), ne-eqb (suc (suc w)) 0 (λ e. omega arith), ne-eqb (suc (suc w)) 1 (λ e. omega arith))
 
 -- the limits with their words for 120 and 1
-pub row-words : (note timbre morph harmonics restart : ℕ)
-    → floatTo (ofBits binary32 0x42f00000) note && (floatTo (ofBits binary32 0x3f800000) timbre && (floatTo (ofBits binary32 0x3f800000) morph && (floatTo (ofBits binary32 0x3f800000) harmonics && leb restart 1)))
-    ≡ rowWithin (note ∷ timbre ∷ morph ∷ harmonics ∷ restart ∷ [])
+pub row-words : (row : List ℕ)
+    → floatTo (ofBits binary32 0x42f00000) (wordFor note row)
+    && (floatTo (ofBits binary32 0x3f800000) (wordFor timbre row)
+    && (floatTo (ofBits binary32 0x3f800000) (wordFor morph row)
+    && (floatTo (ofBits binary32 0x3f800000) (wordFor harmonics row) && leb (wordFor restart row) 1)))
+    ≡ rowWithin row
 unfolding rowWithin limit decimal ofBits
-row-words note timbre morph harmonics restart = rw (restart-word restart)
-
--- a word of a row that stands among rows
-row-at : (rows : List ℕ) (at i : ℕ) → i < rowWords → getD (take rowWords (drop at rows)) i 0 ≡ getD rows (at + i) 0
-row-at rows at i h = getD-take rowWords (drop at rows) i 0 h ∙ getD-drop at rows i 0
-
-pub row-of-rows : (rows : List ℕ) (at : ℕ)
-    → rowWithin (getD rows at 0 ∷ getD rows (at + 1) 0 ∷ getD rows (at + 2) 0 ∷ getD rows (at + 3) 0 ∷ getD rows (at + 4) 0 ∷ []) ≡ rowWithin (take rowWords (drop at rows))
-unfolding rowWithin
-row-of-rows rows at =
-    rw (row-at rows at 0 (lit< tt), add-zero, row-at rows at 1 (lit< tt), row-at rows at 2 (lit< tt), row-at rows at 3 (lit< tt), row-at rows at 4 (lit< tt))
+row-words row = rw (restart-word (wordFor restart row))
 
 -- ---- the first bad row: what the rows up to r leave to be looked at
 pub record Looked (n : ℕ) (rows : List ℕ) (r : ℕ) : Type 0 where
@@ -79,11 +73,11 @@ looks n rows = record { at = zero-le; rest = λ l e. let q : n ≡ l = omega ari
 next-row : (r : ℕ) (rows : List ℕ) → drop rowWords (drop (r * rowWords) rows) ≡ drop ((r + 1) * rowWords) rows
 next-row r rows = let q : (r + 1) * 5 ≡ r * 5 + 5 = omega arith in drop-drop 5 (r * 5) rows ∙ sym (ap (λ (m : ℕ). drop m rows) q)
 
-pub looks-on : (n : ℕ) (rows : List ℕ) (r : ℕ) → Looked n rows r → r < n → rowWithin (take rowWords (drop (r * rowWords) rows)) ≡ true → Looked n rows (r + 1)
+pub looks-on : (n : ℕ) (rows : List ℕ) (r : ℕ) → Looked n rows r → r < n → rowWithin (rowAt rows r) ≡ true → Looked n rows (r + 1)
 unfolding firstBad
 looks-on n rows r h l e = record { at = omega arith; rest = λ k f. let q = rw (e, next-row r rows) at (h .rest (suc k) (omega arith)) in omega arith }
 
-pub found : (n : ℕ) (rows : List ℕ) (r : ℕ) → Looked n rows r → r < n → rowWithin (take rowWords (drop (r * rowWords) rows)) ≡ false → r ≡ firstBad n rows
+pub found : (n : ℕ) (rows : List ℕ) (r : ℕ) → Looked n rows r → r < n → rowWithin (rowAt rows r) ≡ false → r ≡ firstBad n rows
 unfolding firstBad
 found n rows r h l e = let q = rw e at (h .rest (suc (n - r - 1)) (omega arith)) in omega arith
 

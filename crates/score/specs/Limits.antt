@@ -1,31 +1,14 @@
--- Document 01, "Rows, states, retakes": a row's five words and the limits, which go by name.
+-- Document 01, "Rows, states, retakes" and number 9: the limits, which go by name, and the first row outside them.
 use Prim.Native.Nat.{ℕ, zero, suc}
 use mathlib.Core.Bool.{Bool, true, _&&_, _||_, cond}
 use mathlib.Core.List.{List, [], _∷_}
-use lib.ListN.{getD, take, drop}
-use lib.Dec.{eqb}
+use lib.ListN.{take, drop}
+use lib.Dec.{eqb, ltb}
 use lib.Ieee.{Float, binary32, ofBits, le}
 use Rattle.words.specs.Binary32.{decimal}
-
--- "A row is five words."
-abbrev pub rowWords : ℕ
-rowWords = 5
-
--- "note, timbre, morph, harmonics, restart"
-pub data Name : Type 0 where
-  note timbre morph harmonics restart : Name
-
--- The names in row order.
-abbrev pub rowNames : List Name
-rowNames = note ∷ timbre ∷ morph ∷ harmonics ∷ restart ∷ []
-
--- Where a name's word stands in a row.
-abbrev pub place : Name → ℕ
-place note = 0
-place timbre = 1
-place morph = 2
-place harmonics = 3
-place restart = 4
+use Rattle.score.specs.declared.refusal.Refusal.{Refusal}
+use Rattle.score.specs.Numbers.{refusal, accepted, limitNumber}
+use Rattle.score.specs.Rows.{rowWords, Name, note, timbre, morph, harmonics, restart, rowNames, wordFor}
 
 -- "a float 0 to" the given one. IEEE 754's order: -0 equals 0, and NaN is in no order.
 unfoldable pub floatTo : Float → ℕ → Bool
@@ -39,10 +22,10 @@ limit morph w = floatTo (decimal 1 0) w
 limit harmonics w = floatTo (decimal 1 0) w
 limit restart w = eqb w 0 || eqb w 1
 
--- Each of some names has its word, by its place in the row, within its limit.
+-- Each of some names has its word of a row within its limit.
 abbrev pub eachWithin : List Name → List ℕ → Bool
 eachWithin [] row = true
-eachWithin (name ∷ names) row = limit name (getD row (place name) 0) && eachWithin names row
+eachWithin (name ∷ names) row = limit name (wordFor name row) && eachWithin names row
 
 -- The words of one row, in row order, are each within their name's limit.
 unfoldable pub rowWithin : List ℕ → Bool
@@ -52,3 +35,11 @@ rowWithin row = eachWithin rowNames row
 unfoldable pub firstBad : ℕ → List ℕ → ℕ
 firstBad zero rows = 0
 firstBad (suc n) rows = cond (rowWithin (take rowWords rows)) (suc (firstBad n (drop rowWords rows))) 0
+
+-- 9, where `bad` is the first of `count` rows that is outside the limits.
+unfoldable pub badRefusal : ℕ → ℕ → Refusal
+badRefusal bad count = cond (ltb bad count) (refusal limitNumber bad) accepted
+
+-- What 9 says of the first `count` rows.
+unfoldable pub limitRefusal : ℕ → List ℕ → Refusal
+limitRefusal count rows = badRefusal (firstBad count rows) count

@@ -1,11 +1,43 @@
--- Document 01, "Calls and their numbers": results, and the table's numbers for a text.
+-- Document 01, "Calls and their numbers": the table's numbers, and a call's result.
 use Prim.Native.Nat.{ℕ}
+use mathlib.Core.List.{List, [], _∷_}
+use Rattle.score.specs.declared.refusal.Refusal.{Refusal}
 use Rattle.score.specs.declared.reader.ReadAnswer.{ReadAnswer}
 use Rattle.score.specs.declared.reader.ReadAnswer.the-variants.{Read, Refused}
 
--- "rows: rows 0 or above 4,096"
+-- ---- the table
+
+-- "instrument: not 0 wavetable, 1 terrain, 2 terrain with map"
+abbrev pub instrumentNumber : ℕ
+instrumentNumber = 1
+
+-- "rate: whole number of Hz outside 32,000 to 192,000"
+abbrev pub rateNumber : ℕ
+rateNumber = 2
+
+-- "block: frames 0 or above 128"
+abbrev pub blockNumber : ℕ
+blockNumber = 3
+
+-- "bank: length not 25,344"
+abbrev pub bankNumber : ℕ
+bankNumber = 4
+
+-- "map: length not 4,096 for 2, not 0 for 0 and 1"
+abbrev pub mapNumber : ℕ
+mapNumber = 5
+
+-- "rows: words not a multiple of 5; rows 0 or above 4,096"
 abbrev pub rowsNumber : ℕ
 rowsNumber = 6
+
+-- "take: out or aux not rows times frames, or kept not 13 times rows"
+abbrev pub takeNumber : ℕ
+takeNumber = 7
+
+-- "position: edited row not below the row count"
+abbrev pub positionNumber : ℕ
+positionNumber = 8
 
 -- "limit: a word outside its name's limit"
 abbrev pub limitNumber : ℕ
@@ -23,12 +55,32 @@ valueNumber = 11
 abbrev pub spaceNumber : ℕ
 spaceNumber = 12
 
--- "Success carries the row count (reader)." "Result of a refusal: number and place."
-pub data Result : Type 0 where
-  success : ℕ → Result
-  refused : ℕ → ℕ → Result
+-- ---- a refusal
 
--- The result that each case of a reader's answer stands for.
-abbrev pub resultOf : ReadAnswer → Result
-resultOf (Read count) = success count
-resultOf (Refused number place) = refused number place
+-- "Result of a refusal: number and place"
+abbrev pub refusal : ℕ → ℕ → Refusal
+refusal number place = record { number = number; place = place }
+
+-- Nothing is refused.
+abbrev pub accepted : Refusal
+accepted = refusal 0 0
+
+-- ---- the result of a call
+
+-- A call's number, and what it carries.
+pub record Result : Type 0 where
+  pub number : ℕ
+  pub values : List ℕ
+
+-- Success has number 0.
+abbrev pub done : List ℕ → Result
+done values = record { number = 0; values = values }
+
+-- A refusal has its number, and carries its place.
+abbrev pub refused : Refusal → Result
+refused r = record { number = r .number; values = r .place ∷ [] }
+
+-- "Success carries the row count (reader)."
+unfoldable pub resultOf : ReadAnswer → Result
+resultOf (Read count) = done (count ∷ [])
+resultOf (Refused r) = refused r

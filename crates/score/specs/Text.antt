@@ -1,4 +1,4 @@
--- Document 01, "Score text": lines, fields, names and words, over the bytes of a text. The set of names is a parameter.
+-- Document 01, "Score text": lines, fields, names and words, over the bytes of a text. The table of names is a parameter.
 use Prim.Native.Nat.{ℕ, suc, _+_, _-_, _*_}
 use Prim.Native.Char.{code}
 use Prim.Native.String.{String, [] as end, _∷_ as _then_}
@@ -6,6 +6,9 @@ use mathlib.Core.Bool.{Bool, true, false, _&&_, _||_, cond}
 use mathlib.Core.List.{List, [], _∷_, _++_, map}
 use lib.ListN.{length, getD}
 use lib.Dec.{leb, ltb, eqb}
+use Rattle.words.specs.Lists.{same}
+use Rattle.score.specs.declared.table.Source.{Source}
+use Rattle.score.specs.declared.table.Source.the-variants.{Column, Word, Missing}
 
 -- The bytes of a text of ASCII characters.
 abbrev pub bytes : String → List ℕ
@@ -68,35 +71,61 @@ restOf (line ∷ lines) = lines
 
 -- ---- names
 
--- Two texts are the same bytes.
-unfoldable pub same : List ℕ → List ℕ → Bool
-same [] [] = true
-same [] (b ∷ t) = false
-same (a ∷ s) [] = false
-same (a ∷ s) (b ∷ t) = eqb a b && same s t
-
 -- The column of a name: the number of the first field that is the name, and the number of fields if none is.
 unfoldable pub columnOf : List ℕ → List (List ℕ) → ℕ
 columnOf name [] = 0
 columnOf name (field ∷ fields) = cond (same name field) 0 (suc (columnOf name fields))
 
--- The columns of some names.
-unfoldable pub columnsOf : List (List ℕ) → List (List ℕ) → List ℕ
-columnsOf names fields = map (λ name. columnOf name fields) names
+-- A name of a table: as a text has it, and where its word comes from if the first line lacks it. A table has its names in the order of a
+-- row's words: a name's place in the table is its word's place in the row.
+pub record Entry : Type 0 where
+  pub spelling : List ℕ
+  pub absent : Source
 
--- Each of some numbers is below another.
-unfoldable pub eachBelow : ℕ → List ℕ → Bool
-eachBelow top [] = true
-eachBelow top (n ∷ ns) = ltb n top && eachBelow top ns
+-- Where a name's word comes from, by the fields of the first line.
+abbrev pub sourceOf : List (List ℕ) → Entry → Source
+sourceOf fields entry =
+    let column = columnOf (entry .spelling) fields in
+    cond (ltb column (length fields)) (Column column) (entry .absent)
 
--- "A line of names: any order, each once": as many fields as names, and each name, all of which differ, in a column.
-unfoldable pub holdsNames : List (List ℕ) → Line → Bool
-holdsNames names (ended bs) = eqb (length (fieldsOf bs)) (length names) && eachBelow (length (fieldsOf bs)) (columnsOf names (fieldsOf bs))
-holdsNames names (unended bs) = false
+unfoldable pub sourcesOf : List Entry → List (List ℕ) → List Source
+sourcesOf table fields = map (sourceOf fields) table
 
--- The columns of the names, by the first line.
-abbrev pub columnsBy : List (List ℕ) → List Line → List ℕ
-columnsBy names lines = columnsOf names (fieldsOf (contents (firstOf lines)))
+-- A source that a line of n fields has.
+abbrev pub readable : ℕ → Source → Bool
+readable n (Column column) = ltb column n
+readable n (Word word) = true
+readable n Missing = false
+
+unfoldable pub eachReadable : ℕ → List Source → Bool
+eachReadable n [] = true
+eachReadable n (source ∷ sources) = readable n source && eachReadable n sources
+
+-- How many of some sources are columns.
+abbrev pub columnsIn : Source → ℕ
+columnsIn (Column column) = 1
+columnsIn (Word word) = 0
+columnsIn Missing = 0
+
+unfoldable pub columnCount : List Source → ℕ
+columnCount [] = 0
+columnCount (source ∷ sources) = columnsIn source + columnCount sources
+
+-- "any order, each once": each name, all of which differ, has a column or may be absent, and as many fields are there as names with a column.
+unfoldable pub eachOnce : ℕ → List Source → Bool
+eachOnce n sources = eachReadable n sources && eqb (columnCount sources) n
+
+-- "A line of names"
+unfoldable pub holdsNames : List Entry → Line → Bool
+holdsNames table (ended bs) = eachOnce (length (fieldsOf bs)) (sourcesOf table (fieldsOf bs))
+holdsNames table (unended bs) = false
+
+-- The first line's names: how many there are, and the sources of a table's words by them.
+abbrev pub namesOn : List Line → ℕ
+namesOn lines = length (fieldsOf (contents (firstOf lines)))
+
+abbrev pub sourcesBy : List Entry → List Line → List Source
+sourcesBy table lines = sourcesOf table (fieldsOf (contents (firstOf lines)))
 
 -- ---- words
 
@@ -145,11 +174,17 @@ unfoldable pub holdsWords : ℕ → Line → Bool
 holdsWords count (ended bs) = eqb (length (fieldsOf bs)) count && eachWord (fieldsOf bs)
 holdsWords count (unended bs) = false
 
--- The row of a line: the words of the given columns, in their order, which is that of the names.
-unfoldable pub rowOf : List ℕ → Line → List ℕ
-rowOf columns line = map (λ column. wordOf (getD (fieldsOf (contents line)) column [])) columns
+-- The word of a source on a line. A source that is missing has none, and a text with one is refused.
+abbrev pub wordFrom : Line → Source → ℕ
+wordFrom line (Column column) = wordOf (getD (fieldsOf (contents line)) column [])
+wordFrom line (Word word) = word
+wordFrom line Missing = 0
+
+-- The row of a line: the words of the sources, in their order.
+unfoldable pub rowOf : List Source → Line → List ℕ
+rowOf sources line = map (wordFrom line) sources
 
 -- The rows of some lines, one after the other.
-unfoldable pub rowsOf : List ℕ → List Line → List ℕ
-rowsOf columns [] = []
-rowsOf columns (line ∷ lines) = rowOf columns line ++ rowsOf columns lines
+unfoldable pub rowsOf : List Source → List Line → List ℕ
+rowsOf sources [] = []
+rowsOf sources (line ∷ lines) = rowOf sources line ++ rowsOf sources lines

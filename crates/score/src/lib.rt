@@ -1,8 +1,9 @@
-// The score side's lowest layer: the limits of a row's words, and the reader of score and edits texts.
-mod header;
+// The score side's lowest layer: rows and their limits, the numbers of all refusals, and the reader of score and edits texts.
 pub mod limits;
 mod lines;
-pub mod numbers;
 mod pieces;
 pub mod reader;
+pub mod refusal;
+pub mod rows;
+mod table;
 mod word;

@@ -1,15 +1,22 @@
 // The limits by name, tested on words: no branch on a word, one return for each row.
+use crate::refusal::LIMIT;
+use crate::refusal::Refusal;
+use crate::refusal::accepted;
+use crate::rows::HARMONICS;
+use crate::rows::MORPH;
+use crate::rows::NOTE;
+use crate::rows::RESTART;
+use crate::rows::ROW_WORDS;
+use crate::rows::TIMBRE;
+use crate::rows::row_at;
 ghost use mathlib.Core.Path.{_≡_};
 ghost use mathlib.Core.Bool.{cond};
-ghost use mathlib.Core.List.{[], _∷_};
-ghost use Prim.Native.Nat.{_+_, _/_, _<_, _≤_};
+ghost use Prim.Native.Nat.{_*_, _<_, _≤_};
 ghost use lib.Dec.{eqb};
-ghost use lib.ListN.{length, take, drop};
+ghost use lib.ListN.{length};
 ghost use lib.Ieee.{binary32, ofBits};
-ghost use Rattle.score.specs.Limits.{floatTo, rowWithin, firstBad, rowWords};
-
-// A row's words.
-pub const ROW_WORDS: usize = 5;
+ghost use Rattle.score.specs.Rows.{rowWords, putRow};
+ghost use Rattle.score.specs.Limits.{floatTo, rowWithin, firstBad, badRefusal, limitRefusal};
 
 // The word of 120.
 const NOTE_HIGH: u32 = 0x42f00000;
@@ -33,47 +40,74 @@ fn float_to(w: u32, high: u32) -> bool
     plain(w) <= high
 }
 
-// The five words of a row are within their limits.
-fn within(note: u32, timbre: u32, morph: u32, harmonics: u32, restart: u32) -> bool
-    ensures { λ r. ⌜ r ≡ rowWithin (note ∷ timbre ∷ morph ∷ harmonics ∷ restart ∷ []) ⌝ }
-{
-    float_to(note, NOTE_HIGH)
-        & (float_to(timbre, UNIT_HIGH)
-            & (float_to(morph, UNIT_HIGH) & (float_to(harmonics, UNIT_HIGH) & (restart <= 1))))
-}
-
-// Each word of a row, in row order, is within its name's limit.
+// Each word of a row is within its name's limit.
 pub fn row_within(row: [u32; ROW_WORDS]) -> bool
     ensures { λ r. ⌜ r ≡ rowWithin row ⌝ }
 {
-    within(row[0], row[1], row[2], row[3], row[4])
+    float_to(row[NOTE], NOTE_HIGH)
+        & (float_to(row[TIMBRE], UNIT_HIGH)
+            & (float_to(row[MORPH], UNIT_HIGH)
+                & (float_to(row[HARMONICS], UNIT_HIGH) & (row[RESTART] <= 1))))
 }
 
-// The row that starts at `at` is within the limits.
-fn within_at(rows: &[u32], at: usize) -> bool
-    requires { ⌜ at + rowWords ≤ length (now rows) ⌝ }
-    ensures { λ r. ⌜ r ≡ rowWithin (take rowWords (drop at (now (rows .entry)))) ⌝ }
+// Of the first `count` rows the first outside the limits, `count` where there is none.
+fn first_bad(rows: &[u32], count: usize) -> usize
+    requires { ⌜ count * rowWords ≤ length (now rows) ⌝ }
+    ensures { λ r. ⌜ r ≡ firstBad count (now (rows .entry)) ⌝ }
 {
-    within(
-        rows[at],
-        rows[at + 1],
-        rows[at + 2],
-        rows[at + 3],
-        rows[at + 4],
-    )
-}
-
-// The first row outside the limits, or the number of rows.
-pub fn first_bad(rows: &[u32]) -> usize
-    ensures { λ r. ⌜ r ≡ firstBad (length (now (rows .entry)) / rowWords) (now (rows .entry)) ⌝ }
-{
-    let n = rows.len() / ROW_WORDS;
     let mut r = 0;
-    while r < n {
-        if !within_at(rows, r * ROW_WORDS) {
+    while r < count {
+        if !row_within(row_at(rows, r)) {
             return r;
         }
         r += 1;
     }
     r
+}
+
+// The same with a row's words in the place of row k.
+fn first_bad_with(rows: &[u32], count: usize, k: usize, row: [u32; ROW_WORDS]) -> usize
+    requires { ⌜ (k < count) × (count * rowWords ≤ length (now rows)) ⌝ }
+    ensures { λ r. ⌜ r ≡ firstBad count (putRow (now (rows .entry)) k row) ⌝ }
+{
+    let before = first_bad(rows, k);
+    if before < k {
+        return before;
+    }
+    if !row_within(row) {
+        return k;
+    }
+    let next = k + 1;
+    let after = next * ROW_WORDS;
+    next + first_bad(&rows[after..], count - next)
+}
+
+// The refusal for the first of `count` rows that is outside the limits, where one is.
+fn refusal_at(bad: usize, count: usize) -> Refusal
+    ensures { λ r. ⌜ r ≡ badRefusal bad count ⌝ }
+{
+    if bad < count {
+        Refusal {
+            number: LIMIT,
+            place: bad,
+        }
+    } else {
+        accepted()
+    }
+}
+
+// What 9 says of the first `count` rows.
+pub fn limit_refusal(rows: &[u32], count: usize) -> Refusal
+    requires { ⌜ count * rowWords ≤ length (now rows) ⌝ }
+    ensures { λ r. ⌜ r ≡ limitRefusal count (now (rows .entry)) ⌝ }
+{
+    refusal_at(first_bad(rows, count), count)
+}
+
+// The same with a row's words in the place of row k, without a copy of the rows.
+pub fn limit_refusal_with(rows: &[u32], count: usize, k: usize, row: [u32; ROW_WORDS]) -> Refusal
+    requires { ⌜ (k < count) × (count * rowWords ≤ length (now rows)) ⌝ }
+    ensures { λ r. ⌜ r ≡ limitRefusal count (putRow (now (rows .entry)) k row) ⌝ }
+{
+    refusal_at(first_bad_with(rows, count, k, row), count)
 }

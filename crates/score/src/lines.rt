@@ -1,22 +1,31 @@
 // Lines of values: words with one space between, and an LF.
-use crate::header::MOST_NAMES;
-use crate::limits::ROW_WORDS;
 use crate::limits::row_within;
-use crate::numbers::LIMIT;
-use crate::numbers::VALUE;
 use crate::pieces::LF;
 use crate::pieces::SPACE;
+use crate::refusal::LIMIT;
+use crate::refusal::VALUE;
+use crate::rows::ROW_WORDS;
+use crate::table::MOST_NAMES;
+use crate::table::Source;
 use crate::word::WORD_DIGITS;
 use crate::word::is_word;
 use crate::word::word_at;
 ghost use mathlib.Core.Path.{_≡_};
 ghost use mathlib.Core.Bool.{true};
+ghost use mathlib.Core.List.{[], _∷_};
 ghost use Prim.Native.Nat.{_≤_, _<_};
 ghost use lib.ListN.{length, take, drop};
-ghost use Rattle.score.specs.Limits.{rowWords, rowWithin};
-ghost use Rattle.score.specs.Text.{holdsWords, rowOf};
+ghost use Rattle.score.specs.Rows.{rowWords};
+ghost use Rattle.score.specs.Limits.{rowWithin};
+ghost use Rattle.score.specs.Text.{holdsWords, wordFrom, rowOf};
 ghost use Rattle.score.specs.Reading.{lineNumber};
-ghost use Rattle.score.specs.Inner.{mostNames, startsWord, lineAt, Columns};
+ghost use Rattle.score.specs.Inner.{mostNames, startsWord, lineAt, Sourced, OnLine};
+
+// How many words a row has, and how many names stand on the first line: a line has a word for each of these.
+pub struct Shape {
+    pub width: usize,
+    pub names: usize,
+}
 
 // A word and the byte after it.
 pub const FIELD: usize = WORD_DIGITS + 1;
@@ -49,29 +58,38 @@ fn holds_words(text: &[u8], from: usize, count: usize) -> bool
     word_then(text, at, LF)
 }
 
-// The row of the line that starts at `from`, which holds as many words as `row` has places, by the columns.
-pub fn write_row(text: &[u8], from: usize, columns: &[usize; MOST_NAMES], row: &mut [u32])
-    requires { ⌜ Columns (now columns) (length (now row)) ⌝ }
-    requires { ⌜ holdsWords (length (now row)) (lineAt (now text) from) ≡ true ⌝ }
+// The word of a source on the line that starts at `from`.
+fn word_from(text: &[u8], from: usize, source: Source) -> u32
+    requires { ⌜ OnLine (source ∷ []) (lineAt (now text) from) ⌝ }
+    ensures { λ r. ⌜ r ≡ wordFrom (lineAt (now (text .entry)) from) source ⌝ }
+{
+    match source {
+        Source::Column(column) => word_at(text, from + column * FIELD),
+        Source::Word(word) => word,
+        Source::Missing => 0,
+    }
+}
+
+// The row of the line that starts at `from`, by the sources of its words.
+pub fn write_row(text: &[u8], from: usize, sources: [Source; MOST_NAMES], row: &mut [u32])
+    requires { ⌜ OnLine (take (length (now row)) sources) (lineAt (now text) from) ⌝ }
     requires { ⌜ length (now row) ≤ mostNames ⌝ }
-    ensures { λ _. ⌜ now (row .exit) ≡ rowOf (take (length (now (row .entry))) (now (columns .entry))) (lineAt (now (text .entry)) from) ⌝ }
+    ensures { λ _. ⌜ now (row .exit) ≡ rowOf (take (length (now (row .entry))) sources) (lineAt (now (text .entry)) from) ⌝ }
 {
     let mut k = 0;
     while k < row.len() {
-        let column = columns[k];
-        row[k] = word_at(text, from + column * FIELD);
+        row[k] = word_from(text, from, sources[k]);
         k += 1;
     }
 }
 
 // The row of the line that starts at `from` is within the limits.
-fn line_within(text: &[u8], from: usize, columns: &[usize; MOST_NAMES]) -> bool
-    requires { ⌜ Columns (now columns) rowWords ⌝ }
-    requires { ⌜ holdsWords rowWords (lineAt (now text) from) ≡ true ⌝ }
-    ensures { λ r. ⌜ r ≡ rowWithin (rowOf (take rowWords (now (columns .entry))) (lineAt (now (text .entry)) from)) ⌝ }
+fn line_within(text: &[u8], from: usize, sources: [Source; MOST_NAMES]) -> bool
+    requires { ⌜ OnLine (take rowWords sources) (lineAt (now text) from) ⌝ }
+    ensures { λ r. ⌜ r ≡ rowWithin (rowOf (take rowWords sources) (lineAt (now (text .entry)) from)) ⌝ }
 {
     let mut row = [0u32; ROW_WORDS];
-    write_row(text, from, columns, &mut row);
+    write_row(text, from, sources, &mut row);
     row_within(row)
 }
 
@@ -79,20 +97,20 @@ fn line_within(text: &[u8], from: usize, columns: &[usize; MOST_NAMES]) -> bool
 pub fn line_number(
     text: &[u8],
     from: usize,
-    columns: &[usize; MOST_NAMES],
-    count: usize,
-    limited: bool,
+    sources: [Source; MOST_NAMES],
+    shape: Shape,
+    score: bool,
 ) -> u32
     requires { ⌜ from ≤ length (now text) ⌝ }
-    requires { ⌜ Columns (now columns) count ⌝ }
-    requires { ⌜ (limited ≡ true → count ≡ rowWords) ⌝ }
-    ensures { λ r. ⌜ r ≡ lineNumber count (take count (now (columns .entry))) limited (lineAt (now (text .entry)) from) ⌝ }
+    requires { ⌜ Sourced shape sources ⌝ }
+    requires { ⌜ (score ≡ true → shape .width ≡ rowWords) ⌝ }
+    ensures { λ r. ⌜ r ≡ lineNumber (shape .names) (take (shape .width) sources) score (lineAt (now (text .entry)) from) ⌝ }
 {
-    if !holds_words(text, from, count) {
+    if !holds_words(text, from, shape.names) {
         return VALUE;
     }
-    if limited {
-        if !line_within(text, from, columns) {
+    if score {
+        if !line_within(text, from, sources) {
             return LIMIT;
         }
     }

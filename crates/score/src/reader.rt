@@ -1,59 +1,64 @@
 // Reading a text of rows: one pass tests it, and only a text that passes is written.
-use crate::header::MOST_NAMES;
-use crate::header::read_names;
-use crate::limits::ROW_WORDS;
 use crate::lines::FIELD;
+use crate::lines::Shape;
 use crate::lines::line_number;
 use crate::lines::write_row;
-use crate::numbers::NAMES;
-use crate::numbers::ROWS;
-use crate::numbers::SPACE;
+use crate::pieces::LF;
+use crate::pieces::count_fields;
+use crate::pieces::piece_end;
+use crate::refusal::NAMES;
+use crate::refusal::ROWS;
+use crate::refusal::Refusal;
+use crate::refusal::SPACE;
+use crate::rows::MOST_ROWS;
+use crate::rows::ROW_WORDS;
+use crate::table::MOST_NAMES;
+use crate::table::Source;
+use crate::table::each_once;
+use crate::table::sources_of;
 ghost use mathlib.Core.Path.{_≡_};
 ghost use mathlib.Core.Bool.{true, false};
 ghost use mathlib.Core.List.{_++_};
-ghost use Prim.Native.Nat.{_*_, _≤_};
+ghost use Prim.Native.Nat.{_*_, _≤_, _<_};
 ghost use lib.ListN.{length, take, drop};
-ghost use Rattle.score.specs.Limits.{rowWords};
-ghost use Rattle.score.specs.Numbers.{success, resultOf};
-ghost use Rattle.score.specs.Text.{linesOf, rowsOf};
-ghost use Rattle.score.specs.Reading.{testLines, store, outcome, readOf, readEditsOf};
-ghost use Rattle.score.specs.Inner.{mostNames, Columns};
+ghost use Rattle.score.specs.declared.reader.ReadAnswer.the-variants.{Read};
+ghost use Rattle.score.specs.Rows.{rowWords};
+ghost use Rattle.score.specs.Text.{linesOf, fieldsOf, rowsOf};
+ghost use Rattle.score.specs.Reading.{testLines, countNumber, outcome, readText, readOf, readEditsOf};
+ghost use Rattle.score.specs.Inner.{mostNames, tableOf, Sourced, readLines};
 
 // What reading a text gives.
 pub enum ReadAnswer {
     // The number of rows.
     Read(usize),
-    // A refusal's number and place.
-    Refused(u32, usize),
+    Refused(Refusal),
 }
-
-// The most rows of a score.
-pub const MOST_ROWS: usize = 4096;
 
 // An edit's words: its row, then a row's.
 pub const EDIT_WORDS: usize = ROW_WORDS + 1;
 
-// The lines of values from `next` on, each with a word for each of `count` names; and within the limits where these are tested.
+// Tests the lines of values from `next` on, those of a score by their limits too.
 fn test_lines(
     text: &[u8],
     next: usize,
-    columns: &[usize; MOST_NAMES],
-    count: usize,
-    limited: bool,
+    sources: [Source; MOST_NAMES],
+    shape: Shape,
+    score: bool,
 ) -> ReadAnswer
     requires { ⌜ next ≤ length (now text) ⌝ }
-    requires { ⌜ Columns (now columns) count ⌝ }
-    requires { ⌜ (limited ≡ true → count ≡ rowWords) ⌝ }
-    ensures { λ r. ⌜ resultOf r ≡ testLines count (take count (now (columns .entry))) limited 0 (linesOf (drop next (now (text .entry)))) ⌝ }
+    requires { ⌜ Sourced shape sources ⌝ }
+    requires { ⌜ (score ≡ true → shape .width ≡ rowWords) ⌝ }
+    ensures { λ r. ⌜ r ≡ testLines (shape .names) (take (shape .width) sources) score 0 (linesOf (drop next (now (text .entry)))) ⌝ }
 {
+    let names = shape.names;
     let mut from = next;
     let mut at = 0;
     while from < text.len() {
-        let number = line_number(text, from, columns, count, limited);
+        let number = line_number(text, from, sources, shape, score);
         if number != 0 {
-            return ReadAnswer::Refused(number, at);
+            return ReadAnswer::Refused(Refusal { number, place: at });
         }
-        from += count * FIELD;
+        from += names * FIELD;
         at += 1;
     }
     ReadAnswer::Read(at)
@@ -63,88 +68,132 @@ fn test_lines(
 fn write_rows(
     text: &[u8],
     next: usize,
-    columns: &[usize; MOST_NAMES],
-    count: usize,
+    sources: [Source; MOST_NAMES],
+    shape: Shape,
     lines: usize,
     rows: &mut [u32],
 )
-    requires { ⌜ (next ≤ length (now text)) × (count ≤ mostNames) ⌝ }
-    requires { ⌜ Columns (now columns) count ⌝ }
-    requires { ⌜ testLines count (take count (now columns)) false 0 (linesOf (drop next (now text))) ≡ success lines ⌝ }
-    requires { ⌜ count * lines ≤ length (now rows) ⌝ }
-    ensures { λ _. ⌜ now (rows .exit) ≡ rowsOf (take count (now (columns .entry))) (linesOf (drop next (now (text .entry)))) ++ drop (count * lines) (now (rows .entry)) ⌝ }
+    requires { ⌜ (next ≤ length (now text)) × (shape .width ≤ mostNames) ⌝ }
+    requires { ⌜ Sourced shape sources ⌝ }
+    requires { ⌜ testLines (shape .names) (take (shape .width) sources) false 0 (linesOf (drop next (now text))) ≡ Read lines ⌝ }
+    requires { ⌜ shape .width * lines ≤ length (now rows) ⌝ }
+    ensures { λ _. ⌜ now (rows .exit) ≡ rowsOf (take (shape .width) sources) (linesOf (drop next (now (text .entry)))) ++ drop (shape .width * lines) (now (rows .entry)) ⌝ }
 {
+    let width = shape.width;
+    let names = shape.names;
     let mut from = next;
     let mut base = 0;
     let mut k = 0;
     while k < lines {
-        let end = base + count;
-        write_row(text, from, columns, &mut rows[base..end]);
-        from += count * FIELD;
+        let end = base + width;
+        write_row(text, from, sources, &mut rows[base..end]);
+        from += names * FIELD;
         base = end;
         k += 1;
     }
 }
 
-// The rows of `lines` lines from `next` on, if there are words enough for them.
-fn store_rows(
+// The number that refuses so many rows of so many words, where `lent` words are lent, 0 if none does.
+fn count_number(score: bool, words: usize, count: usize, lent: usize) -> u32
+    requires { ⌜ 0 < words ⌝ }
+    ensures { λ r. ⌜ r ≡ countNumber score words count lent ⌝ }
+{
+    if score & ((count == 0) | (count > MOST_ROWS)) {
+        return ROWS;
+    }
+    if lent / words < count {
+        return SPACE;
+    }
+    0
+}
+
+// The lines of values from `next` on: tested, and then stored.
+fn read_lines(
     text: &[u8],
     next: usize,
-    columns: &[usize; MOST_NAMES],
-    count: usize,
-    lines: usize,
+    sources: [Source; MOST_NAMES],
+    shape: Shape,
+    score: bool,
     rows: &mut [u32],
 ) -> ReadAnswer
-    requires { ⌜ (next ≤ length (now text)) × (count ≤ mostNames) ⌝ }
-    requires { ⌜ Columns (now columns) count ⌝ }
-    requires { ⌜ testLines count (take count (now columns)) false 0 (linesOf (drop next (now text))) ≡ success lines ⌝ }
-    ensures { λ r. ⌜ outcome r (now (rows .exit)) ≡ store count lines (rowsOf (take count (now (columns .entry))) (linesOf (drop next (now (text .entry))))) (now (rows .entry)) ⌝ }
+    requires { ⌜ (next ≤ length (now text)) × (shape .width ≤ mostNames) ⌝ }
+    requires { ⌜ Sourced shape sources ⌝ }
+    requires { ⌜ (score ≡ true → shape .width ≡ rowWords) ⌝ }
+    ensures { λ r. ⌜ outcome r (now (rows .exit)) ≡ readLines score shape (take (shape .width) sources) (linesOf (drop next (now (text .entry)))) (now (rows .entry)) ⌝ }
 {
-    if rows.len() / count < lines {
-        return ReadAnswer::Refused(SPACE, 0);
+    let answer = test_lines(text, next, sources, shape, score);
+    match answer {
+        ReadAnswer::Refused(r) => ReadAnswer::Refused(r),
+        ReadAnswer::Read(lines) => {
+            let number = count_number(score, shape.width, lines, rows.len());
+            if number != 0 {
+                return ReadAnswer::Refused(Refusal { number, place: 0 });
+            }
+            write_rows(text, next, sources, shape, lines, rows);
+            ReadAnswer::Read(lines)
+        }
     }
-    write_rows(text, next, columns, count, lines, rows);
-    ReadAnswer::Read(lines)
+}
+
+// Reads a text by a table of names, as a score or not. The names stand in `names` with one space between, and what the absence of each
+// means in `absent`.
+fn read_text(
+    text: &[u8],
+    names: &[u8],
+    absent: [Source; MOST_NAMES],
+    score: bool,
+    rows: &mut [u32],
+) -> ReadAnswer
+    requires { ⌜ length (fieldsOf (now names)) ≤ mostNames ⌝ }
+    requires { ⌜ (score ≡ true → length (fieldsOf (now names)) ≡ rowWords) ⌝ }
+    ensures { λ r. ⌜ outcome r (now (rows .exit)) ≡ readText score (tableOf (fieldsOf (now (names .entry))) absent) (now (text .entry)) (now (rows .entry)) ⌝ }
+{
+    let end = piece_end(text, 0, LF);
+    if end == text.len() {
+        return ReadAnswer::Refused(Refusal {
+            number: NAMES,
+            place: 0,
+        });
+    }
+    let line = &text[..end];
+    let shape = Shape {
+        width: count_fields(names),
+        names: count_fields(line),
+    };
+    let sources = sources_of(line, names, absent);
+    if !each_once(sources, shape.width, shape.names) {
+        return ReadAnswer::Refused(Refusal {
+            number: NAMES,
+            place: 0,
+        });
+    }
+    read_lines(text, end + 1, sources, shape, score, rows)
 }
 
 // Reads a score: its rows' words in row order, whatever the columns' order.
 pub fn read(text: &[u8], rows: &mut [u32]) -> ReadAnswer
     ensures { λ r. ⌜ outcome r (now (rows .exit)) ≡ readOf (now (text .entry)) (now (rows .entry)) ⌝ }
 {
-    let header = read_names(text, b"note timbre morph harmonics restart");
-    let next = header.next;
-    if next == 0 {
-        return ReadAnswer::Refused(NAMES, 0);
-    }
-    let columns = header.columns;
-    let answer = test_lines(text, next, &columns, ROW_WORDS, true);
-    match answer {
-        ReadAnswer::Refused(number, place) => ReadAnswer::Refused(number, place),
-        ReadAnswer::Read(lines) => {
-            if lines == 0 {
-                return ReadAnswer::Refused(ROWS, 0);
-            }
-            if lines > MOST_ROWS {
-                return ReadAnswer::Refused(ROWS, 0);
-            }
-            store_rows(text, next, &columns, ROW_WORDS, lines, rows)
-        }
-    }
+    let absent = [Source::Missing; MOST_NAMES];
+    read_text(
+        text,
+        b"note timbre morph harmonics restart",
+        absent,
+        true,
+        rows,
+    )
 }
 
 // Reads edits: six words each, the row first, then the five in row order. No limit is tested.
 pub fn read_edits(text: &[u8], edits: &mut [u32]) -> ReadAnswer
     ensures { λ r. ⌜ outcome r (now (edits .exit)) ≡ readEditsOf (now (text .entry)) (now (edits .entry)) ⌝ }
 {
-    let header = read_names(text, b"row note timbre morph harmonics restart");
-    let next = header.next;
-    if next == 0 {
-        return ReadAnswer::Refused(NAMES, 0);
-    }
-    let columns = header.columns;
-    let answer = test_lines(text, next, &columns, EDIT_WORDS, false);
-    match answer {
-        ReadAnswer::Refused(number, place) => ReadAnswer::Refused(number, place),
-        ReadAnswer::Read(lines) => store_rows(text, next, &columns, EDIT_WORDS, lines, edits),
-    }
+    let absent = [Source::Missing; MOST_NAMES];
+    read_text(
+        text,
+        b"row note timbre morph harmonics restart",
+        absent,
+        false,
+        edits,
+    )
 }

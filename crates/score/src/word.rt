@@ -23,18 +23,21 @@ fn digit(b: u8) -> u32
     (b % 16 + b / 64 * 9) as u32
 }
 
+// Four digits stand at `at`.
+fn is_half_word(text: &[u8], at: usize) -> bool
+    requires { ⌜ at + 4 ≤ length (now text) ⌝ }
+    ensures { λ r. ⌜ r ≡ eachDigit (take 4 (drop at (now (text .entry)))) ⌝ }
+{
+    is_digit(text[at])
+        & (is_digit(text[at + 1]) & (is_digit(text[at + 2]) & is_digit(text[at + 3])))
+}
+
 // A word stands at `at`.
 pub fn is_word(text: &[u8], at: usize) -> bool
     requires { ⌜ at + wordDigits ≤ length (now text) ⌝ }
     ensures { λ r. ⌜ r ≡ isWord (take wordDigits (drop at (now (text .entry)))) ⌝ }
 {
-    is_digit(text[at])
-        & (is_digit(text[at + 1])
-            & (is_digit(text[at + 2])
-                & (is_digit(text[at + 3])
-                    & (is_digit(text[at + 4])
-                        & (is_digit(text[at + 5])
-                            & (is_digit(text[at + 6]) & is_digit(text[at + 7])))))))
+    is_half_word(text, at) & is_half_word(text, at + 4)
 }
 
 // The number that four digits at `at` write.

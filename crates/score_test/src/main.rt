@@ -49,11 +49,11 @@ fn show(answer: ReadAnswer, words: &[u32]) {
             io::print_decimal(STDOUT_FILENO, count as u64);
             show_words(words);
         }
-        ReadAnswer::Refused(number, place) => {
+        ReadAnswer::Refused(r) => {
             say(b"refused ");
-            io::print_decimal(STDOUT_FILENO, number as u64);
+            io::print_decimal(STDOUT_FILENO, r.number as u64);
             say(b" ");
-            io::print_decimal(STDOUT_FILENO, place as u64);
+            io::print_decimal(STDOUT_FILENO, r.place as u64);
             if kept(words) {
                 say(b" kept");
             } else {
@@ -172,7 +172,7 @@ fn read_long(text: &mut [u8], lines: usize, tail: &[u8], words: &mut [u32]) {
     let answer = score::reader::read(&text[..end], words);
     match answer {
         ReadAnswer::Read(_) => show_last(answer, words),
-        ReadAnswer::Refused(_, _) => show(answer, words),
+        ReadAnswer::Refused(_) => show(answer, words),
     }
 }
 

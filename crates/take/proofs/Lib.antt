@@ -1,11 +1,9 @@
 -- What the proofs of this crate share.
-pub mod Words
-pub mod Limits
-pub mod Runs
 pub mod Refusals
 pub mod Calls
-pub mod Parts
-pub mod Standing
+pub mod Takes
+pub mod Runs
 pub mod FreshRows
-pub mod Retaking
+pub mod Editing
 pub mod Retakes
+pub mod Inherits

@@ -1,18 +1,41 @@
--- The refusals: what each test says of the definitions, and what holds of the lengths where none of 1 to 7 is refused.
+-- The refusals: what holds of the lengths where none of 1 to 7 is refused, and what each test of a call says of its refusal.
 use mathlib.Core.Path.{_≡_, refl, sym}
 use mathlib.Core.List.{List}
 use mathlib.Core.Bool.{Bool, true, false, cond, not, _||_, true≢false}
 use mathlib.Core.Logic.{_⊎_, inl, inr}
 use Prim.Native.Nat.{ℕ, zero, suc, _*_, _/_, _%_, _≤_, _<_}
 use native.Mathlib.Omega.{arith}
-use borrow.Author.Tests.{eq-eqb, ne-eqb, eqb-true, eqb-false, ltb-false, lt-ltb, le-ltb}
-use lib.Dec.{eqb}
+use borrow.Author.Tests.{eq-eqb, ne-eqb, eqb-true, eqb-false, ltb-true, ltb-false, lt-ltb, le-ltb}
+use lib.Dec.{eqb, ltb}
 use lib.ListN.{length}
-use Rattle.voice.specs.Voice.{Lent}
-use Rattle.score.specs.Limits.{rowWords, firstBad}
-use Rattle.take.specs.Take.{Settings, Take, rowCount, putRow, terrainWithMap, mapLength, mapLengthOf, wrongInstrument, wrongRate, wrongBlock, wrongBank, wrongMap, wrongRows, wrongTake, settingsNumber, lengthsNumber, lentNumber, accepted, limitNumber, positionNumber, limitRefusal, scoreRefusal, refusalOf, renderRefusal, editRefusal, mostFrames, mostRows, keptCount, bankLength}
-use Rattle.take.specs.Rooms.{Fit}
-use Rattle.take.proofs.Limits.{put-count}
+use Rattle.utils.specs.Rendered.{mostFrames}
+use Rattle.oscillator.specs.Bank.{bankLength}
+use Rattle.wave_terrain_engine.specs.Heights.{mapLength}
+use Rattle.voice.specs.Voice.{Lent, mapInstrument, keptCount}
+use Rattle.score.specs.declared.refusal.Refusal.{Refusal}
+use Rattle.score.specs.Rows.{rowWords, mostRows, putRow}
+use Rattle.score.specs.Limits.{limitRefusal}
+use Rattle.score.specs.Numbers.{refusal, positionNumber}
+use Rattle.rows.specs.Rows.{Setup, Take}
+use Rattle.rows.specs.Inner.{Holding}
+use Rattle.take.specs.Take.{
+  rowCount,
+  mapLengthOf,
+  wrongInstrument,
+  wrongRate,
+  wrongBlock,
+  wrongBank,
+  wrongMap,
+  wrongRows,
+  wrongTake,
+  settingsNumber,
+  lengthsNumber,
+  lentNumber,
+  scoreRefusal,
+  refusalOf,
+  renderRefusal,
+  editRefusal,
+}
 
 -- ---- No number: no test holds.
 
@@ -29,7 +52,6 @@ not-not true e = refl
 not-not false e = absurd (true≢false e)
 
 pub record SettingsRight (instrument frames bank map : ℕ) : Type 0 where
-  pub frames-some : 0 < frames
   pub frames-most : frames ≤ mostFrames
   pub bank-long : bank ≡ bankLength
   pub map-long : map ≡ mapLengthOf instrument
@@ -42,10 +64,8 @@ settings-right instrument rate frames bank map e =
     let c = passed (wrongBlock frames) 2 _ (b .1) in
     let d = passed (wrongBank bank) 3 _ (c .1) in
     let f = passed (wrongMap instrument map) 4 _ (d .1) in
-    let g = neither _ _ (c .0) in
-    let some : frames ≡ 0 → ⊥ = eqb-false frames 0 (g .0) in
+    let g = neither (eqb frames 0) (ltb mostFrames frames) (c .0) in
     record {
-      frames-some = omega (arith, some);
       frames-most = ltb-false mostFrames frames (g .1);
       bank-long = eqb-true bank bankLength (not-not _ (d .0));
       map-long = eqb-true map (mapLengthOf instrument) (not-not _ (f .0));
@@ -84,19 +104,19 @@ lengths-right frames rows out aux kept e =
 
 -- ---- What a run may count on.
 
-pub record Usable (s : Settings) (rows : List ℕ) (t : Take) : Type 0 where
-  pub lent : Lent (s .bank) (s .map)
-  pub fit : Fit (s .frames) (rowCount rows) rows (t .out) (t .aux) (t .kept)
-  pub some : 0 < rowCount rows
+pub record Usable (s : Setup) (rows : List ℕ) (t : Take) : Type 0 where
+  pub tables : Lent (s .bank) (s .map)
+  pub settings : SettingsRight (s .instrument) (s .frames) (length (s .bank)) (length (s .map))
+  pub fit : LengthsRight (s .frames) (length rows) (length (t .out)) (length (t .aux)) (length (t .kept))
 
 map-lengths : (i m : ℕ) → m ≡ mapLengthOf i → (m ≡ 0) ⊎ (m ≡ mapLength)
-map-lengths i m e = go (eqb i terrainWithMap) e
+map-lengths i m e = go (eqb i mapInstrument) e
   where
     go : (b : Bool) → m ≡ cond b mapLength 0 → (m ≡ 0) ⊎ (m ≡ mapLength)
     go true q = inr q
     go false q = inl q
 
-pub usable : (s : Settings) (rows : List ℕ) (t : Take) → lentNumber s rows t ≡ 0 → Usable s rows t
+pub usable : (s : Setup) (rows : List ℕ) (t : Take) → lentNumber s rows t ≡ 0 → Usable s rows t
 unfolding lentNumber
 usable s rows t e = go (settingsNumber (s .instrument) (s .rate) (s .frames) (length (s .bank)) (length (s .map))) refl e
   where
@@ -104,61 +124,67 @@ usable s rows t e = go (settingsNumber (s .instrument) (s .rate) (s .frames) (le
         → cond (eqb m 0) (lengthsNumber (s .frames) (length rows) (length (t .out)) (length (t .aux)) (length (t .kept))) m ≡ 0 → Usable s rows t
     go zero q x =
         let a = settings-right (s .instrument) (s .rate) (s .frames) (length (s .bank)) (length (s .map)) (sym q) in
-        let b = lengths-right (s .frames) (length rows) (length (t .out)) (length (t .aux)) (length (t .kept)) x in
         record {
-          lent = record { bank-long = a .bank-long; map-long = map-lengths (s .instrument) (length (s .map)) (a .map-long) };
-          fit = record {
-            frames-some = a .frames-some;
-            frames-most = a .frames-most;
-            rows-most = b .rows-most;
-            rows-long = b .rows-long;
-            out-long = b .out-long;
-            aux-long = b .aux-long;
-            kept-long = b .kept-long;
-          };
-          some = b .rows-some;
+          tables = record { bank-long = a .bank-long; map-long = map-lengths (s .instrument) (length (s .map)) (a .map-long) };
+          settings = a;
+          fit = lengths-right (s .frames) (length rows) (length (t .out)) (length (t .aux)) (length (t .kept)) x;
         }
     go (suc m) q x =
         let y : suc m ≡ 0 = rw (ne-eqb (suc m) 0 (λ (h : suc m ≡ 0). omega arith)) at x in
         absurd (omega arith)
 
+-- Row words of the same length hold the rows too.
+pub holding : (s : Setup) (rows rows' : List ℕ) (t : Take) → Usable s rows t → length rows' ≡ length rows → Holding (s .frames) (rowCount rows) rows' t
+holding s rows rows' t u e =
+    let a = u .settings in
+    let b = u .fit in
+    record {
+      frames-most = a .frames-most;
+      rows-most = b .rows-most;
+      rows-room = omega (arith, b .rows-long);
+      out-room = omega (arith, b .out-long);
+      aux-room = omega (arith, b .aux-long);
+      kept-room = omega (arith, b .kept-long);
+    }
+
 -- ---- What each call refuses.
 
-module _ (s : Settings) (rows : List ℕ) (t : Take) (number : ℕ) (e : number ≡ lentNumber s rows t) where
-  pub render-lent : (number ≡ 0 → ⊥) → record { number = number; place = 0 } ≡ renderRefusal s rows t
+-- What is accepted is refused by no test.
+pub refusal-none : (number : ℕ) (next : Refusal) → refusalOf number next .number ≡ 0 → (number ≡ 0) × (next .number ≡ 0)
+unfolding refusalOf
+refusal-none zero next e = (refl, e)
+refusal-none (suc m) next e =
+    let y : suc m ≡ 0 = rw (ne-eqb (suc m) 0 (λ (h : suc m ≡ 0). omega arith)) at e in
+    absurd (omega arith)
+
+pub score-none : (rows : List ℕ) (k : ℕ) (row : List ℕ) → scoreRefusal rows k row .number ≡ 0
+    → (k < rowCount rows) × (limitRefusal (rowCount rows) (putRow rows k row) .number ≡ 0)
+unfolding scoreRefusal
+score-none rows k row e = go (ltb k (rowCount rows)) (ltb-true k (rowCount rows)) e
+  where
+    go : (b : Bool) → (b ≡ true → k < rowCount rows) → cond b (limitRefusal (rowCount rows) (putRow rows k row)) (refusal positionNumber k) .number ≡ 0
+        → (k < rowCount rows) × (limitRefusal (rowCount rows) (putRow rows k row) .number ≡ 0)
+    go true f e = (f refl, e)
+    go false f e = absurd (omega arith)
+
+module _ (s : Setup) (rows : List ℕ) (t : Take) (number : ℕ) (e : number ≡ lentNumber s rows t) where
+  pub render-lent : (number ≡ 0 → ⊥) → refusal number 0 ≡ renderRefusal s rows t
   unfolding renderRefusal refusalOf
   render-lent h = simp (sym e, ne-eqb number 0 h)
 
-  module _ (z : number ≡ 0) (b : ℕ) (eb : b ≡ firstBad (rowCount rows) rows) where
-    pub render-bad : b < rowCount rows → record { number = limitNumber; place = b } ≡ renderRefusal s rows t
-    unfolding renderRefusal refusalOf limitRefusal
-    render-bad h = simp (sym e, eq-eqb number 0 z, sym eb, lt-ltb b (rowCount rows) h)
-
-    pub render-good : rowCount rows ≤ b → accepted ≡ renderRefusal s rows t
-    unfolding renderRefusal refusalOf limitRefusal
-    render-good h = simp (sym e, eq-eqb number 0 z, sym eb, le-ltb b (rowCount rows) h)
+  pub render-limits : number ≡ 0 → (r : Refusal) → r ≡ limitRefusal (rowCount rows) rows → r ≡ renderRefusal s rows t
+  unfolding renderRefusal refusalOf
+  render-limits z r q = simp (sym e, eq-eqb number 0 z, q)
 
   module _ (k : ℕ) (row : List ℕ) where
-    pub edit-lent : (number ≡ 0 → ⊥) → record { number = number; place = 0 } ≡ editRefusal s rows k row t
+    pub edit-lent : (number ≡ 0 → ⊥) → refusal number 0 ≡ editRefusal s rows k row t
     unfolding editRefusal refusalOf
     edit-lent h = simp (sym e, ne-eqb number 0 h)
 
-    module _ (z : number ≡ 0) where
-      pub edit-nowhere : rowCount rows ≤ k → record { number = positionNumber; place = k } ≡ editRefusal s rows k row t
-      unfolding editRefusal refusalOf scoreRefusal
-      edit-nowhere h = simp (sym e, eq-eqb number 0 z, le-ltb k (rowCount rows) h)
+    pub edit-nowhere : number ≡ 0 → rowCount rows ≤ k → refusal positionNumber k ≡ editRefusal s rows k row t
+    unfolding editRefusal refusalOf scoreRefusal
+    edit-nowhere z h = simp (sym e, eq-eqb number 0 z, le-ltb k (rowCount rows) h)
 
-      module _ (five : length row ≡ rowWords) (h : k < rowCount rows) (b : ℕ) (eb : b ≡ firstBad (rowCount (putRow rows k row)) (putRow rows k row)) where
-        count : rowCount (putRow rows k row) ≡ rowCount rows
-        count = put-count rows row k five h
-
-        found : b ≡ firstBad (rowCount rows) (putRow rows k row)
-        found = rw count at eb
-
-        pub edit-bad : b < rowCount rows → record { number = limitNumber; place = b } ≡ editRefusal s rows k row t
-        unfolding editRefusal refusalOf scoreRefusal limitRefusal
-        edit-bad l = simp (sym e, eq-eqb number 0 z, lt-ltb k (rowCount rows) h, count, sym found, lt-ltb b (rowCount rows) l)
-
-        pub edit-good : rowCount rows ≤ b → accepted ≡ editRefusal s rows k row t
-        unfolding editRefusal refusalOf scoreRefusal limitRefusal
-        edit-good l = simp (sym e, eq-eqb number 0 z, lt-ltb k (rowCount rows) h, count, sym found, le-ltb b (rowCount rows) l)
+    pub edit-limits : number ≡ 0 → k < rowCount rows → (r : Refusal) → r ≡ limitRefusal (rowCount rows) (putRow rows k row) → r ≡ editRefusal s rows k row t
+    unfolding editRefusal refusalOf scoreRefusal
+    edit-limits z h r q = simp (sym e, eq-eqb number 0 z, lt-ltb k (rowCount rows) h, q)

@@ -1,13 +1,17 @@
 -- Laws of blocks of frames, for any step of any states: the last frame first, a frame by its number, and a part of the state that goes its own way.
 use mathlib.Core.Path.{_≡_, refl, sym, ap, _∙_}
-use mathlib.Core.List.{List}
-use Prim.Native.Nat.{ℕ, zero, suc, _+_, _*_, _≤_, _<_, zero-le}
-use native.Mathlib.Nat.{add-assoc, le-of-suc-le-suc, not-suc-le-zero}
+use mathlib.Core.List.{List, [], _∷_, _++_}
+use Prim.Native.Nat.{ℕ, zero, suc, _+_, _*_, _<_, zero-le}
+use native.Mathlib.Nat.{le-of-suc-le-suc, not-suc-le-zero}
+use native.Mathlib.Numerals.{add-one}
 use native.Mathlib.Omega.{arith}
 use lib.ListN.{length, getD, set, length-set}
 use lib.Seq.{getD-set-same, getD-set-other, ext-getD}
 use borrow.Author.Count.{below-more}
+use Rattle.utils.specs.Holds.{plus, total, AtMost}
 use Rattle.utils.specs.Frames.{stateAfter, eachOf, sumOf, Filled}
+use Rattle.utils.specs.declared.holds.Holds.{Holds}
+use Rattle.utils.proofs.Sums.{total-snoc, most-none, most-more, most-plus}
 
 module _ {S : Type 0} (next : S → S) where
   pub after-suc : (n : ℕ) (s : S) → stateAfter next (suc n) s ≡ next (stateAfter next n s)
@@ -27,22 +31,41 @@ module _ {S : Type 0} (next : S → S) where
   each-at f d (suc n) s zero h = refl
   each-at f d (suc n) s (suc j) h = each-at f d n (next s) j (le-of-suc-le-suc h)
 
-  pub sum-suc : (f : S → ℕ) (n : ℕ) (s : S) → sumOf next f (suc n) s ≡ sumOf next f n s + f (stateAfter next n s)
-  unfolding sumOf stateAfter
-  sum-suc f zero s = omega arith
-  sum-suc f (suc n) s = ap (λ (k : ℕ). f s + k) (sum-suc f n (next s)) ∙ sym (add-assoc (f s) (sumOf next f n (next s)) (f (stateAfter next n (next s))))
+  pub each-suc : {A : Type 0} (f : S → A) (n : ℕ) (s : S) → eachOf next f (suc n) s ≡ eachOf next f n s ++ (f (stateAfter next n s) ∷ [])
+  unfolding eachOf stateAfter
+  each-suc f zero s = refl
+  each-suc f (suc n) s = ap (λ (l : List _). f s ∷ l) (each-suc f n (next s))
 
-  -- a count of at most k a frame
-  pub sum-most : (f : S → ℕ) (k : ℕ) → ((s : S) → f s ≤ k) → (n : ℕ) (s : S) → sumOf next f n s ≤ k * n
-  unfolding sumOf
-  sum-most f k h zero s = zero-le
-  sum-most f k h (suc n) s = omega (arith, h s, sum-most f k h n (next s))
+  pub sum-suc : (f : S → Holds) (n : ℕ) (s : S) → sumOf next f (suc n) s ≡ plus (sumOf next f n s) (f (stateAfter next n s))
+  sum-suc f n s = ap total (each-suc f n s) ∙ total-snoc _ _
+
+  -- frames that hold at most k each
+  pub sum-most : (f : S → Holds) (k : ℕ) → ((s : S) → AtMost k (f s)) → (n : ℕ) (s : S) → AtMost (k * n) (sumOf next f n s)
+  unfolding eachOf total
+  sum-most f k h zero s = most-none (k * 0)
+  sum-most f k h (suc n) s = most-more (omega arith) (most-plus (h s) (sum-most f k h n (next s)))
 
   -- a part of the state whose next value follows from its own value alone
   pub part-after : {P : Type 0} (part : S → P) (step : P → P) → ((s : S) → part (next s) ≡ step (part s)) → (n : ℕ) (s : S) → part (stateAfter next n s) ≡ stateAfter step n (part s)
   unfolding stateAfter
   part-after part step h zero s = refl
   part-after part step h (suc n) s = part-after part step h n (next s) ∙ ap (stateAfter step n) (h s)
+
+  -- what each frame gives, where that follows from such a part
+  pub part-each : {P A : Type 0} (part : S → P) (step : P → P) (f : S → A) (g : P → A)
+      → ((s : S) → part (next s) ≡ step (part s)) → ((s : S) → f s ≡ g (part s)) → (n : ℕ) (s : S) → eachOf next f n s ≡ eachOf step g n (part s)
+  unfolding eachOf
+  part-each part step f g h e zero s = refl
+  part-each part step f g h e (suc n) s =
+      ap (λ (x : _). x ∷ eachOf next f n (next s)) (e s)
+      ∙ ap (λ (l : List _). g (part s) ∷ l) (part-each part step f g h e n (next s) ∙ ap (eachOf step g n) (h s))
+
+  -- a loop that carries a state and a sum, one turn on
+  pub after-more : (i : ℕ) (s₀ s t : S) → t ≡ next s → s ≡ stateAfter next i s₀ → t ≡ stateAfter next (i + 1) s₀
+  after-more i s₀ s t e h = rw (add-one, after-suc i s₀) (e ∙ ap next h)
+
+  pub sum-more : (f : S → Holds) (i : ℕ) (s₀ s : S) (h v : Holds) → h ≡ sumOf next f i s₀ → s ≡ stateAfter next i s₀ → v ≡ f s → plus h v ≡ sumOf next f (i + 1) s₀
+  sum-more f i s₀ s h v p q e = rw (add-one, sum-suc f i s₀) (ap (λ (a : Holds). plus a v) p ∙ ap (plus (sumOf next f i s₀)) (e ∙ ap f q))
 
 -- ---- lists that a loop fills from the front
 module _ {A : Type 0} (f : ℕ → A) (d : A) where

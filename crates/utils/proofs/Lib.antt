@@ -1,4 +1,5 @@
 -- What the proofs of this crate share.
 pub mod Magnitude
+pub mod Sums
 pub mod Frames
 pub mod Rising

@@ -1,10 +1,15 @@
 -- Document 01, "Pitch": `units.rs`, and `note_to_frequency` of `engine/mod.rs`.
+use Prim.Native.Nat.{ℕ}
 use mathlib.Core.List.{List, [], _∷_}
 use lib.ListN.{getD}
 use lib.Ieee.{Float, nan, neg}
-use Rattle.words.specs.Binary32.{_⊕_, _⊖_, _⊗_, decimal}
+use Rattle.words.specs.Binary32.{_⊕_, _⊖_, _⊗_, _⊘_, decimal, ofCount}
 use Rattle.words.specs.Parts.{wholePart, wholeFloat}
 use Rattle.utils.specs.Utils.{clampOf}
+
+-- "a0 = 55 divided by the rate in binary32".
+abbrev pub a0Of : ℕ → Float
+a0Of rate = decimal 55 0 ⊘ ofCount rate
 
 -- The frequency ratio of a number of semitones, by a table of semitones and one of 256ths of a semitone.
 unfoldable pub semitonesToRatio : List Float → List Float → Float → Float

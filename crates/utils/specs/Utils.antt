@@ -1,5 +1,5 @@
 -- Document 01, "Float helpers": clamp, min, max, abs, and what the source's `utils/mod.rs` and `rsqrt.rs` have, as written there.
-use Prim.Native.Nat.{ℕ, _+_, _-_, _/_}
+use Prim.Native.Nat.{_+_, _-_, _/_}
 use mathlib.Core.Bool.{false, cond}
 use mathlib.Core.List.{List}
 use lib.ListN.{length, getD}

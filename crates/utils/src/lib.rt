@@ -5,6 +5,7 @@ ghost use lib.ListN.{length};
 ghost use Rattle.utils.specs.Utils.{clampOf, minOf, maxOf, absOf, onePole, interpolateWrap};
 
 pub mod engine;
+pub mod holds;
 pub mod parameter_interpolator;
 pub mod rsqrt;
 pub mod units;

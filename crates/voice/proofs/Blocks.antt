@@ -1,35 +1,32 @@
 -- A voice's own block is the block of the state that holds it.
-use Prim.Native.Nat.{ℕ, _*_, _≤_}
+use Prim.Native.Nat.{ℕ}
 use mathlib.Core.Path.{_≡_, ap}
 use mathlib.Core.List.{List}
-use native.Mathlib.Omega.{arith}
 use lib.IntN.{ℤ}
 use lib.Ieee.{Float}
+use Rattle.utils.specs.Rendered.{Renders}
 use Rattle.utils.specs.declared.engine.EngineParameters.{EngineParameters}
-use Rattle.wavetable_engine.specs.Wavetable.{rendered}
+use Rattle.utils.specs.declared.holds.Holds.{Holds}
+use Rattle.wavetable_engine.specs.Wavetable as wavetable
 use Rattle.wavetable_engine.specs.declared.WavetableEngine.{WavetableEngine}
-use Rattle.wave_terrain_engine.specs.Block.{terrainBlock, Renders}
+use Rattle.wave_terrain_engine.specs.Block as terrain
 use Rattle.wave_terrain_engine.specs.declared.WaveTerrainEngine.{WaveTerrainEngine}
 use Rattle.voice.specs.declared.State.{State}
 use Rattle.voice.specs.declared.State.the-variants.{Wavetable, Terrain}
-use Rattle.voice.specs.Voice.{blockOf, Tables}
+use Rattle.voice.specs.Voice.{rendered, Tables}
 
--- what `render` ensures
-abbrev Made : List ℤ → List ℕ → ℕ → EngineParameters → State → State → ℕ → List ℕ → List ℕ → Type 0
-Made bank map n p s state held out aux =
-    (state ≡ blockOf bank map n p s .state) × ((held ≡ blockOf bank map n p s .held) × ((held ≤ 4 * n) × ((out ≡ blockOf bank map n p s .out) × (aux ≡ blockOf bank map n p s .aux))))
+module _ (bank : List ℤ) (map : List ℕ) (sine high low : List Float) (tables : Tables sine high low)
+    (n : ℕ) (p : EngineParameters) (s : State) (holds : Holds) (out aux : List ℕ) where
+  pub wavetable-renders : (w state : WavetableEngine) → s ≡ Wavetable w
+      → Renders (wavetable.rendered bank high low n p w) n state holds out aux → Renders (rendered bank map n p s) n (Wavetable state) holds out aux
+  unfolding rendered
+  wavetable-renders w state e r =
+      let b = (rw (tables .high-is, tables .low-is) at r) in
+      rw e (record { out-is = b .out-is; aux-is = b .aux-is; state-is = ap Wavetable (b .state-is); holds-is = b .holds-is; holds-most = b .holds-most })
 
-module _ (bank : List ℤ) (map : List ℕ) (sine high low : List Float) (n : ℕ) (p : EngineParameters) (s : State) (tables : Tables sine high low) (held : ℕ) (out aux : List ℕ) where
-  pub wavetable-made : (w state : WavetableEngine) → s ≡ Wavetable w
-      → (state ≡ rendered bank high low n p w .state) × ((held ≡ rendered bank high low n p w .held) × ((held ≤ n) × ((out ≡ rendered bank high low n p w .out) × (aux ≡ rendered bank high low n p w .aux))))
-      → Made bank map n p s (Wavetable state) held out aux
-  unfolding blockOf
-  wavetable-made w state e b =
-      let c = (rw (tables .high-is, tables .low-is) at b) in
-      rw e (ap Wavetable (c .0), (c .1 .0, (omega (arith, c .1 .1 .0), (c .1 .1 .1 .0, c .1 .1 .1 .1))))
-
-  pub terrain-made : (t state : WaveTerrainEngine) → s ≡ Terrain t → Renders (terrainBlock sine high low bank map n p t) n state held out aux → Made bank map n p s (Terrain state) held out aux
-  unfolding blockOf
-  terrain-made t state e b =
-      let c = (rw (tables .sine-is, tables .high-is, tables .low-is) at b) in
-      rw e (ap Terrain (c .state-is), (c .held-is, (c .held-most, (c .out-is, c .aux-is))))
+  pub terrain-renders : (t state : WaveTerrainEngine) → s ≡ Terrain t
+      → Renders (terrain.rendered bank map sine high low n p t) n state holds out aux → Renders (rendered bank map n p s) n (Terrain state) holds out aux
+  unfolding rendered
+  terrain-renders t state e r =
+      let b = (rw (tables .sine-is, tables .high-is, tables .low-is) at r) in
+      rw e (record { out-is = b .out-is; aux-is = b .aux-is; state-is = ap Terrain (b .state-is); holds-is = b .holds-is; holds-most = b .holds-most })

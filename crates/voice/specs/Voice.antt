@@ -8,12 +8,15 @@ use lib.IntN.{ℤ}
 use lib.ListN.{getD}
 use lib.Ieee.{Float, binary32, ofBits, toBits}
 use Rattle.utils.specs.Units.{lutPitchRatioHigh, lutPitchRatioLow}
+use Rattle.utils.specs.Rendered.{Rendered}
 use Rattle.utils.specs.declared.engine.EngineParameters.{EngineParameters}
 use Rattle.oscillator.specs.Sine.{lutSine}
-use Rattle.wavetable_engine.specs.Wavetable.{fresh, rendered}
+use Rattle.wavetable_engine.specs.Wavetable as wavetable
 use Rattle.wavetable_engine.specs.declared.WavetableEngine.{WavetableEngine}
+use Rattle.wave_terrain_engine.specs.Block as terrain
 use Rattle.wave_terrain_engine.specs.declared.WaveTerrainEngine.{WaveTerrainEngine}
-use Rattle.wave_terrain_engine.specs.Block.{terrainFresh, terrainBlock}
+use Rattle.voice.specs.declared.Voice.{Voice}
+use Rattle.voice.specs.declared.Voice.the-variants as voice
 use Rattle.voice.specs.declared.State.{State}
 use Rattle.voice.specs.declared.State.the-variants.{Wavetable, Terrain}
 pub use Rattle.wave_terrain_engine.specs.Block.{Lent}
@@ -28,15 +31,33 @@ pub record Tables (sine high low : List Float) : Type 0 where
 abbrev pub wavetableInstrument : ℕ
 wavetableInstrument = 0
 
+abbrev pub terrainInstrument : ℕ
+terrainInstrument = 1
+
+abbrev pub mapInstrument : ℕ
+mapInstrument = 2
+
+-- Which voice an instrument plays. A number that is no instrument's is refused by every call; it stands with the wavetable voice.
+unfoldable pub voiceOf : ℕ → Voice
+voiceOf instrument =
+    cond (eqb instrument wavetableInstrument) voice.Wavetable
+    (cond (eqb instrument terrainInstrument) voice.Terrain
+    (cond (eqb instrument mapInstrument) voice.Terrain voice.Wavetable))
+
 -- "The state is one of two voices, each carrying its own floats, and starts from the value that its type names as fresh."
-unfoldable pub freshState : ℕ → Float → State
-freshState instrument a0 = cond (eqb instrument wavetableInstrument) (Wavetable (fresh a0)) (Terrain terrainFresh)
+unfoldable pub freshState : Voice → Float → State
+freshState voice.Wavetable a0 = Wavetable (wavetable.fresh a0)
+freshState voice.Terrain a0 = Terrain terrain.fresh
 
 -- The word of a float: "Any NaN is written as 7fc00000 in out, aux and kept".
 abbrev word : Float → ℕ
 word x = toBits binary32 x
 
--- "Kept after each row, 13 words. Wavetable: phase; pre x, y, z; lp x, y, z; previous x, y, z, f0; differentiator lp, previous.
+-- "Kept after each row, 13 words."
+abbrev pub keptCount : ℕ
+keptCount = 13
+
+-- "Wavetable: phase; pre x, y, z; lp x, y, z; previous x, y, z, f0; differentiator lp, previous.
 -- Terrain: path x, y, epsilon, amplitude; offset; terrain index; seven zeros."
 unfoldable pub keptWords : State → List ℕ
 keptWords (Wavetable s) =
@@ -87,21 +108,16 @@ terrainOf kept =
       «terrain_idx» = float kept 5;
     }
 
-unfoldable pub stateOf : ℕ → List ℕ → State
-stateOf instrument kept = cond (eqb instrument wavetableInstrument) (Wavetable (wavetableOf kept)) (Terrain (terrainOf kept))
+unfoldable pub stateOf : Voice → List ℕ → State
+stateOf voice.Wavetable kept = Wavetable (wavetableOf kept)
+stateOf voice.Terrain kept = Terrain (terrainOf kept)
 
--- What a block of n frames gives: its out and aux words, the next state, and its `held`.
-pub record Rendered : Type 0 where
-  pub out : List ℕ
-  pub aux : List ℕ
-  pub state : State
-  pub held : ℕ
+-- A voice's own block, as a block of any state.
+abbrev among : {S : Type 0} → (S → State) → Rendered S → Rendered State
+among of b = record { out = b .out; aux = b .aux; state = of (b .state); holds = b .holds }
 
 -- A block, made from a state and a row's parameters by the voice that the state is of.
-unfoldable pub blockOf : List ℤ → List ℕ → ℕ → EngineParameters → State → Rendered
-blockOf bank map n parameters (Wavetable s) =
-    let b = rendered bank lutPitchRatioHigh lutPitchRatioLow n parameters s in
-    record { out = b .out; aux = b .aux; state = Wavetable (b .state); held = b .held }
-blockOf bank map n parameters (Terrain s) =
-    let b = terrainBlock lutSine lutPitchRatioHigh lutPitchRatioLow bank map n parameters s in
-    record { out = b .out; aux = b .aux; state = Terrain (b .state); held = b .held }
+unfoldable pub rendered : List ℤ → List ℕ → ℕ → EngineParameters → State → Rendered State
+rendered bank map n parameters (Wavetable s) = among Wavetable (wavetable.rendered bank lutPitchRatioHigh lutPitchRatioLow n parameters s)
+rendered bank map n parameters (Terrain s) =
+    among Terrain (terrain.rendered bank map lutSine lutPitchRatioHigh lutPitchRatioLow n parameters s)

@@ -1,39 +1,63 @@
 // The state of a voice, its kept words, and the block of a row, for either voice.
 ghost use mathlib.Core.Path.{_≡_};
-ghost use Prim.Native.Nat.{_*_, _≤_, _<_};
 ghost use lib.ListN.{length};
-ghost use Rattle.voice.specs.Voice.{freshState, keptWords, wavetableOf, terrainOf, stateOf, blockOf, Lent, Tables};
+ghost use Rattle.utils.specs.Rendered.{Places, Renders};
+ghost use Rattle.voice.specs.Voice.{voiceOf, keptCount, freshState, keptWords, wavetableOf, terrainOf, stateOf, rendered, Lent, Tables};
 use oscillator::sine_oscillator::FastSineOscillator;
 use oscillator::wavetable_oscillator::Differentiator;
+use utils::engine::CORNERS_LENGTH;
 use utils::engine::EngineParameters;
+use utils::engine::MOST_FRAMES;
+use utils::engine::RUN_LENGTH;
+use utils::holds::Holds;
 use wave_terrain_engine::WaveTerrainEngine;
 use wavetable_engine::WavetableEngine;
 
-// The instrument that plays the wavetable voice; the others play the terrain voice.
+// The instruments.
 pub const WAVETABLE: u32 = 0;
+
+pub const TERRAIN: u32 = 1;
+
+pub const TERRAIN_WITH_MAP: u32 = 2;
 
 // The words that are kept of a state.
 pub const KEPT_WORDS: usize = 13;
+
+pub enum Voice {
+    Wavetable,
+    Terrain,
+}
 
 pub enum State {
     Wavetable(WavetableEngine),
     Terrain(WaveTerrainEngine),
 }
 
-// The state after a block, and its `held`.
+// The state after a block, and what was held.
 pub struct Block {
     pub state: State,
-    pub held: usize,
+    pub holds: Holds,
 }
 
-// The fresh state of an instrument. `a0` is 55 divided by the rate.
-pub fn fresh(instrument: u32, a0: f32) -> State
-    ensures { λ r. ⌜ r ≡ freshState instrument a0 ⌝ }
+// Which voice an instrument plays. A number that is no instrument's is refused before a voice is asked for.
+pub fn voice_of(instrument: u32) -> Voice
+    ensures { λ r. ⌜ r ≡ voiceOf instrument ⌝ }
 {
-    if instrument == WAVETABLE {
-        State::Wavetable(WavetableEngine::init(a0))
-    } else {
-        State::Terrain(WaveTerrainEngine::init())
+    match instrument {
+        WAVETABLE => Voice::Wavetable,
+        TERRAIN => Voice::Terrain,
+        TERRAIN_WITH_MAP => Voice::Terrain,
+        _ => Voice::Wavetable,
+    }
+}
+
+// The fresh state of a voice. `a0` is 55 divided by the rate.
+pub fn fresh(voice: Voice, a0: f32) -> State
+    ensures { λ r. ⌜ r ≡ freshState voice a0 ⌝ }
+{
+    match voice {
+        Voice::Wavetable => State::Wavetable(WavetableEngine::init(a0)),
+        Voice::Terrain => State::Terrain(WaveTerrainEngine::init()),
     }
 }
 
@@ -91,7 +115,7 @@ pub fn kept_words(s: State) -> [u32; KEPT_WORDS]
 
 // The wavetable state by kept words.
 fn wavetable_of(kept: &[u32]) -> WavetableEngine
-    requires { ⌜ length (now kept) ≡ 13 ⌝ }
+    requires { ⌜ length (now kept) ≡ keptCount ⌝ }
     ensures { λ r. ⌜ r ≡ wavetableOf (now (kept .entry)) ⌝ }
 {
     WavetableEngine {
@@ -115,7 +139,7 @@ fn wavetable_of(kept: &[u32]) -> WavetableEngine
 
 // The terrain state by kept words.
 fn terrain_of(kept: &[u32]) -> WaveTerrainEngine
-    requires { ⌜ length (now kept) ≡ 13 ⌝ }
+    requires { ⌜ length (now kept) ≡ keptCount ⌝ }
     ensures { λ r. ⌜ r ≡ terrainOf (now (kept .entry)) ⌝ }
 {
     WaveTerrainEngine {
@@ -130,15 +154,14 @@ fn terrain_of(kept: &[u32]) -> WaveTerrainEngine
     }
 }
 
-// The state of an instrument by kept words.
-pub fn state_of(instrument: u32, kept: &[u32]) -> State
-    requires { ⌜ length (now kept) ≡ 13 ⌝ }
-    ensures { λ r. ⌜ r ≡ stateOf instrument (now (kept .entry)) ⌝ }
+// The state of a voice by kept words.
+pub fn state_of(voice: Voice, kept: &[u32]) -> State
+    requires { ⌜ length (now kept) ≡ keptCount ⌝ }
+    ensures { λ r. ⌜ r ≡ stateOf voice (now (kept .entry)) ⌝ }
 {
-    if instrument == WAVETABLE {
-        State::Wavetable(wavetable_of(kept))
-    } else {
-        State::Terrain(terrain_of(kept))
+    match voice {
+        Voice::Wavetable => State::Wavetable(wavetable_of(kept)),
+        Voice::Terrain => State::Terrain(terrain_of(kept)),
     }
 }
 
@@ -151,25 +174,20 @@ pub fn render(
     sine: &[f32; 641],
     high: &[f32; 256],
     low: &[f32; 256],
-    keys: &mut [u32; 128],
-    run_1: &mut [f32; 256],
-    run_2: &mut [f32; 256],
-    run_3: &mut [f32; 256],
-    run_4: &mut [f32; 256],
-    corners: &mut [f32; 1024],
+    keys: &mut [u32; MOST_FRAMES],
+    run_1: &mut [f32; RUN_LENGTH],
+    run_2: &mut [f32; RUN_LENGTH],
+    run_3: &mut [f32; RUN_LENGTH],
+    run_4: &mut [f32; RUN_LENGTH],
+    corners: &mut [f32; CORNERS_LENGTH],
     out: &mut [u32],
     aux: &mut [u32],
 ) -> Block
     requires { ⌜ Lent (now bank) (now map) ⌝ }
     requires { ⌜ Tables (now sine) (now high) (now low) ⌝ }
-    requires { ⌜ 0 < length (now out) ⌝ }
-    requires { ⌜ length (now out) ≤ 128 ⌝ }
-    requires { ⌜ length (now aux) ≡ length (now out) ⌝ }
-    ensures { λ r. ⌜ r .state ≡ blockOf (now (bank .entry)) (now (map .entry)) (length (now (out .entry))) parameters state .state ⌝ }
-    ensures { λ r. ⌜ r .held ≡ blockOf (now (bank .entry)) (now (map .entry)) (length (now (out .entry))) parameters state .held ⌝ }
-    ensures { λ r. ⌜ r .held ≤ 4 * length (now (out .entry)) ⌝ }
-    ensures { λ _. ⌜ now (out .exit) ≡ blockOf (now (bank .entry)) (now (map .entry)) (length (now (out .entry))) parameters state .out ⌝ }
-    ensures { λ _. ⌜ now (aux .exit) ≡ blockOf (now (bank .entry)) (now (map .entry)) (length (now (out .entry))) parameters state .aux ⌝ }
+    requires { ⌜ Places (now out) (now aux) ⌝ }
+    ensures { λ r. ⌜ Renders (rendered (now (bank .entry)) (now (map .entry)) (length (now (out .entry))) parameters state)
+        (length (now (out .entry))) (r .state) (r .holds) (now (out .exit)) (now (aux .exit)) ⌝ }
 {
     match state {
         State::Wavetable(w) => {
@@ -188,9 +206,10 @@ pub fn render(
                 aux,
             );
             let s = b.state;
+            let holds = b.holds;
             Block {
                 state: State::Wavetable(s),
-                held: b.held,
+                holds,
             }
         }
         State::Terrain(t) => {
@@ -211,9 +230,10 @@ pub fn render(
                 aux,
             );
             let s = b.state;
+            let holds = b.holds;
             Block {
                 state: State::Terrain(s),
-                held: b.held,
+                holds,
             }
         }
     }

@@ -1,5 +1,5 @@
 -- Document 01, "Path and terrain voice": a block of frames, `render` of `wave_terrain_engine.rs`.
-use Prim.Native.Nat.{ℕ, _+_, _*_, _≤_}
+use Prim.Native.Nat.{ℕ, _+_, _*_}
 use mathlib.Core.Path.{_≡_}
 use mathlib.Core.Logic.{_⊎_}
 use mathlib.Core.Bool.{cond}
@@ -14,11 +14,15 @@ use Rattle.words.specs.declared.Part.{Part}
 use Rattle.utils.specs.Utils.{absOf, minOf, maxOf}
 use Rattle.utils.specs.Units.{noteToFrequency}
 use Rattle.utils.specs.Interpolator.{interpolator, stepped}
+use Rattle.utils.specs.Holds.{plus}
 use Rattle.utils.specs.Frames.{stateAfter, eachOf, sumOf}
+use Rattle.utils.specs.Rendered.{Rendered}
+use Rattle.utils.specs.declared.holds.Holds.{Holds}
 use Rattle.utils.specs.declared.engine.EngineParameters.{EngineParameters}
+use Rattle.oscillator.specs.Bank.{bankLength}
 use Rattle.oscillator.specs.Path.{pathFresh, pathRun, pathRun2, pathAfter}
 use Rattle.oscillator.specs.Sine.{sineOf}
-use Rattle.wave_terrain_engine.specs.Heights.{mapLength, bankLength, terrainOf}
+use Rattle.wave_terrain_engine.specs.Heights.{mapLength, terrainOf}
 use Rattle.wave_terrain_engine.specs.declared.terrain.Reading.{Reading}
 use Rattle.wave_terrain_engine.specs.declared.frames.Interpolators.{Interpolators}
 use Rattle.wave_terrain_engine.specs.declared.WaveTerrainEngine.{WaveTerrainEngine}
@@ -29,8 +33,8 @@ pub record Lent (bank : List ℤ) (map : List ℕ) : Type 0 where
   pub map-long : (length map ≡ 0) ⊎ (length map ≡ mapLength)
 
 -- What `init` leaves.
-abbrev pub terrainFresh : WaveTerrainEngine
-terrainFresh = record { path = pathFresh; offset = decimal 0 0; «terrain_idx» = decimal 0 0 }
+abbrev pub fresh : WaveTerrainEngine
+fresh = record { path = pathFresh; offset = decimal 0 0; «terrain_idx» = decimal 0 0 }
 
 -- "`OVERSAMPLING` is 2 here", and SCALE.
 abbrev pub oversampling : ℕ
@@ -44,8 +48,14 @@ abbrev pub numTerrains : List ℕ → ℕ
 numTerrains map = cond (eqb (length map) 0) 8 9
 
 -- "The whole layer number is held at 6 without a map and 7 with one".
+abbrev pub top : ℕ
+top = 6
+
+abbrev pub topWithMap : ℕ
+topWithMap = 7
+
 abbrev pub layerTop : List ℕ → ℕ
-layerTop map = cond (eqb (length map) 0) 6 7
+layerTop map = cond (eqb (length map) 0) top topWithMap
 
 -- ---- A frame. Its state: the interpolators of offset and layer, and the next entry of the path's two runs.
 
@@ -101,10 +111,12 @@ module _ (sine : List Float) (bank : List ℤ) (map : List ℕ) (run run2 : List
       (sineOf sine (phaseOf (getD run2 (s .ij) nan) (zAt s (s .ij)) (getD run2 (s .ij + 1) nan) (zAt s (s .ij + 1))))
 
   -- "that reading adds 1 to `held`": two oversamples of two layers.
-  abbrev pub frameHeld : Frame → ℕ
-  frameHeld s =
+  abbrev pub frameHolds : Frame → Holds
+  frameHolds s =
       let layer = layerOf (layerTop map) (s .at) .whole in
-      heightAt s (s .ij) layer .held + heightAt s (s .ij) (layer + 1) .held + (heightAt s (s .ij + 1) layer .held + heightAt s (s .ij + 1) (layer + 1) .held)
+      plus
+      (plus (heightAt s (s .ij) layer .holds) (heightAt s (s .ij) (layer + 1) .holds))
+      (plus (heightAt s (s .ij + 1) layer .holds) (heightAt s (s .ij + 1) (layer + 1) .holds))
 
   -- The frame loop: n frames, from the runs' first entry on.
   module _ (start : Interpolators) (n : ℕ) where
@@ -117,8 +129,8 @@ module _ (sine : List Float) (bank : List ℤ) (map : List ℕ) (run run2 : List
     abbrev pub framesAux : List ℕ
     framesAux = eachOf frameNext frameAux n firstFrame
 
-    abbrev pub framesHeld : ℕ
-    framesHeld = sumOf frameNext frameHeld n firstFrame
+    abbrev pub framesHolds : Holds
+    framesHolds = sumOf frameNext frameHolds n firstFrame
 
 -- ---- The block.
 
@@ -139,16 +151,9 @@ interpolatorsOf map p s n =
           n;
     }
 
--- What a block gives: its words, the next state, and how many readings were held.
-pub record TerrainBlock : Type 0 where
-  pub out : List ℕ
-  pub aux : List ℕ
-  pub state : WaveTerrainEngine
-  pub held : ℕ
-
 -- `render`, n frames. `sine`, `high` and `low` are the tables of the sine and of the pitch ratios.
-unfoldable pub terrainBlock : List Float → List Float → List Float → List ℤ → List ℕ → ℕ → EngineParameters → WaveTerrainEngine → TerrainBlock
-terrainBlock sine high low bank map n p s =
+unfoldable pub rendered : List ℤ → List ℕ → List Float → List Float → List Float → ℕ → EngineParameters → WaveTerrainEngine → Rendered WaveTerrainEngine
+rendered bank map sine high low n p s =
     let f0 = noteToFrequency high low (p .note) (p .«a0_normalized») in
     let radius = radiusOf f0 (p .timbre) in
     let run = pathRun (s .path) (f0 ⊗ scale) radius (oversampling * n) in
@@ -164,13 +169,5 @@ terrainBlock sine high low bank map n p s =
             offset = end .offset .value;
             «terrain_idx» = end .«terrain_idx» .value;
           };
-      held = framesHeld sine bank map run run2 start n;
+      holds = framesHolds sine bank map run run2 start n;
     }
-
--- What a call of `render` leaves, by a block: the words lent, the state and the count that it answers.
-pub record Renders (b : TerrainBlock) (n : ℕ) (state : WaveTerrainEngine) (held : ℕ) (out aux : List ℕ) : Type 0 where
-  pub out-is : out ≡ b .out
-  pub aux-is : aux ≡ b .aux
-  pub state-is : state ≡ b .state
-  pub held-is : held ≡ b .held
-  pub held-most : held ≤ 4 * n

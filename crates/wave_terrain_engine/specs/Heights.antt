@@ -8,6 +8,9 @@ use lib.Ieee.{Float}
 use Rattle.words.specs.Binary32.{_⊕_, _⊖_, _⊗_, _⊘_, decimal, ofCount}
 use Rattle.words.specs.Parts.{wholePart, wholeFloat}
 use Rattle.utils.specs.Utils.{absOf}
+use Rattle.utils.specs.Holds.{none}
+use Rattle.utils.specs.declared.holds.Holds.{Holds}
+use Rattle.oscillator.specs.Bank.{waveLength, tableSizeF}
 use Rattle.oscillator.specs.Readings.{
   floatOfI16,
   floatOfU8,
@@ -56,8 +59,8 @@ module _ (sine : List Float) (x y : Float) where
 -- ---- Readings of the lent map and bank.
 
 -- "Where the Rust would read past the end, flat is held, and that reading adds 1 to `held`."
-abbrev pub heldPlace : ℕ → ℕ → Place
-heldPlace edge flat = record { flat = min flat edge; held = cond (ltb edge flat) 1 0 }
+abbrev pub heldPlace : Holds → ℕ → ℕ → Place
+heldPlace hold edge flat = record { flat = min flat edge; holds = cond (ltb edge flat) hold none }
 
 -- A map has "4,096 bytes, 64 rows of 64"; "flat is held at 4,030 (map)".
 abbrev pub mapLength : ℕ
@@ -69,9 +72,12 @@ terrainSize = 64
 abbrev pub mapEdge : ℕ
 mapEdge = 4030
 
+abbrev pub mapHold : Holds
+mapHold = record { held = 1 }
+
 -- "Map reading: flat = 64 times y's whole part plus x's".
 abbrev pub mapPlace : ℕ → ℕ → Place
-mapPlace x y = heldPlace mapEdge (terrainSize * y + x)
+mapPlace x y = heldPlace mapHold mapEdge (terrainSize * y + x)
 
 -- `terrain_lookup`: "it reads flat, +1, +64, +65", "fractions untouched".
 unfoldable pub terrainLookup : List ℕ → Float → Float → Reading
@@ -84,47 +90,48 @@ terrainLookup map x y =
     let far = interpolateWave floatOfU8 0 map (place .flat + terrainSize) (mx ⊖ wholeFloat mx) in
     record {
       value = (near ⊕ (far ⊖ near) ⊗ (my ⊖ wholeFloat my)) ⊗ (decimal 1 0 ⊘ decimal 128 0);
-      held = place .held;
+      holds = place .holds;
     }
 
--- "Bank: 25,344 i16", read as three terrains of 64 waves of 132 samples; "flat is held at 25,209 (bank)".
-abbrev pub bankLength : ℕ
-bankLength = 25344
-
-abbrev pub tableSize : ℕ
-tableSize = 128
-
-abbrev pub tableSizeFull : ℕ
-tableSizeFull = 132
-
+-- The bank, read as three terrains of 64 waves; "flat is held at 25,209 (bank)".
 abbrev pub numWaves : ℕ
 numWaves = 64
 
 abbrev pub bankEdge : ℕ
 bankEdge = 25209
 
+abbrev pub bankHold : Holds
+bankHold = record { held = 1 }
+
 -- "Bank reading: flat = 8448 times (7 - layer) + 132 times x's whole part + y's".
 abbrev pub bankPlace : ℕ → ℕ → ℕ → Place
-bankPlace number x y = heldPlace bankEdge (numWaves * tableSizeFull * number + tableSizeFull * x + y)
+bankPlace number x y = heldPlace bankHold bankEdge (numWaves * waveLength * number + waveLength * x + y)
 
 -- `terrain_lookup_wt`: "it reads flat to +2 and +132 to +134"; "x picks the wave and y the sample".
 unfoldable pub terrainLookupWt : List ℤ → Float → Float → ℕ → Reading
 terrainLookupWt bank x y number =
-    let sample = (y ⊕ decimal 1 0) ⊗ decimal 5 1 ⊗ ofCount tableSize in
+    let sample = (y ⊕ decimal 1 0) ⊗ decimal 5 1 ⊗ tableSizeF in
     let wt = (x ⊕ decimal 1 0) ⊗ decimal 5 1 ⊗ ofCount (numWaves - 1) in
     let place = bankPlace number (wholePart wt) (wholePart sample) in
     let near = interpolateIntegratedWave floatOfI16 (pos 0) bank (place .flat) (sample ⊖ wholeFloat sample) in
-    let far = interpolateIntegratedWave floatOfI16 (pos 0) bank (place .flat + tableSizeFull) (sample ⊖ wholeFloat sample) in
+    let far = interpolateIntegratedWave floatOfI16 (pos 0) bank (place .flat + waveLength) (sample ⊖ wholeFloat sample) in
     record {
       value = (near ⊕ (far ⊖ near) ⊗ (wt ⊖ wholeFloat wt)) ⊗ (decimal 1 0 ⊘ decimal 1024 0);
-      held = place .held;
+      holds = place .holds;
     }
 
 -- A layer that is no reading holds nothing.
 abbrev pub unheld : Float → Reading
-unheld z = record { value = z; held = 0 }
+unheld z = record { value = z; holds = none }
 
--- `terrain`: "Layers 0 to 7, and 8 with a map. Layers 5 to 7 read the lent bank".
+-- "Layers 5 to 7 read the lent bank", "and 8 with a map".
+abbrev pub lastBankLayer : ℕ
+lastBankLayer = 7
+
+abbrev pub mapLayer : ℕ
+mapLayer = 8
+
+-- `terrain`, layer by layer.
 unfoldable pub terrainOf : List Float → List ℤ → List ℕ → Float → Float → ℕ → Reading
 terrainOf sine bank map x y index =
     cond (eqb index 0) (unheld (terrain0 sine x y))
@@ -132,5 +139,5 @@ terrainOf sine bank map x y index =
     (cond (eqb index 2) (unheld (terrain2 sine x y))
     (cond (eqb index 3) (unheld (terrain3 sine x y))
     (cond (eqb index 4) (unheld (terrain4 sine x y))
-    (cond (leb index 7) (terrainLookupWt bank x y (7 - index))
-    (cond (eqb index 8) (terrainLookup map x y) (unheld (decimal 0 0))))))))
+    (cond (leb index lastBankLayer) (terrainLookupWt bank x y (lastBankLayer - index))
+    (cond (eqb index mapLayer) (terrainLookup map x y) (unheld (decimal 0 0))))))))

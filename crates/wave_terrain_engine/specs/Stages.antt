@@ -5,10 +5,12 @@ use mathlib.Core.List.{List}
 use lib.IntN.{ℤ}
 use lib.ListN.{length, getD}
 use lib.Ieee.{Float, nan, binary32, toBits}
+use Rattle.utils.specs.Holds.{AtMost}
 use Rattle.utils.specs.Frames.{stateAfter}
+use Rattle.utils.specs.declared.holds.Holds.{Holds}
 use Rattle.oscillator.specs.Sine.{sineOf}
 use Rattle.wave_terrain_engine.specs.Heights.{terrainOf}
-use Rattle.wave_terrain_engine.specs.Block.{oversampling, interpolatorsNext, offsetOf, layerOf, shiftedX, between, outOf, phaseOf, framesOut, framesAux, framesHeld}
+use Rattle.wave_terrain_engine.specs.Block.{oversampling, interpolatorsNext, offsetOf, layerOf, shiftedX, between, outOf, phaseOf, framesOut, framesAux, framesHolds}
 use Rattle.wave_terrain_engine.specs.declared.frames.Interpolators.{Interpolators}
 use Rattle.wave_terrain_engine.specs.declared.terrain.Reading.{Reading}
 
@@ -57,8 +59,8 @@ pub record Room (n : ℕ) (run run2 xs z1s : List Float) (layers : List ℕ) (fr
   pub fractions-room : n ≤ length fractions
 
 -- What the frame loop leaves.
-pub record FramesDone (sine : List Float) (bank : List ℤ) (map : List ℕ) (run run2 : List Float) (start : Interpolators) (n held : ℕ) (out aux : List ℕ) : Type 0 where
+pub record FramesDone (sine : List Float) (bank : List ℤ) (map : List ℕ) (run run2 : List Float) (start : Interpolators) (n : ℕ) (holds : Holds) (out aux : List ℕ) : Type 0 where
   pub out-is : out ≡ framesOut sine bank map run run2 start n
   pub aux-is : aux ≡ framesAux sine bank map run run2 start n
-  pub held-is : held ≡ framesHeld sine bank map run run2 start n
-  pub held-most : held ≤ 4 * n
+  pub holds-are : holds ≡ framesHolds sine bank map run run2 start n
+  pub holds-most : AtMost (4 * n) holds

@@ -4,11 +4,13 @@ ghost use mathlib.Core.Path.{_≡_};
 ghost use Prim.Native.Nat.{ℕ, suc, _+_, _*_, _/_, _≤_, _<_};
 ghost use lib.ListN.{length, getD, take};
 ghost use lib.Ieee.{nan};
+ghost use Rattle.utils.specs.Holds.{AtMost};
 ghost use Rattle.utils.specs.Frames.{stateAfter, sumOf, Filled};
-ghost use Rattle.wave_terrain_engine.specs.Block.{Lent, oversampling, layerTop, interpolatorsNext, shiftedX, between, outOf, phaseOf};
+ghost use Rattle.wave_terrain_engine.specs.Block.{Lent, oversampling, topWithMap, layerTop, interpolatorsNext, shiftedX, between, outOf, phaseOf};
 ghost use Rattle.wave_terrain_engine.specs.Stages.{stageX, stageLayer, stageFraction, stageHeight, stageOut, stagePhase, stageAux, Room, FramesDone};
 use crate::terrain::terrain;
 use oscillator::sine_oscillator::sine;
+use utils::holds::Holds;
 use utils::parameter_interpolator::ParameterInterpolator;
 
 // Samples of the path for each frame, and their weight.
@@ -53,7 +55,7 @@ pub fn shift(
     layers: &mut [u32],
     fractions: &mut [f32],
 ) -> Interpolators
-    requires { ⌜ top ≤ 7 ⌝ }
+    requires { ⌜ top ≤ topWithMap ⌝ }
     requires { ⌜ (n * oversampling ≤ length (now run)) × ((n * oversampling ≤ length (now xs)) × ((n ≤ length (now layers)) × (n ≤ length (now fractions)))) ⌝ }
     ensures { λ r. ⌜ r ≡ stateAfter interpolatorsNext n start ⌝ }
     ensures { λ _. ⌜ Filled (stageX (now (run .entry)) start) nan (now (xs .exit)) (n * oversampling) ⌝ }
@@ -76,7 +78,7 @@ pub fn shift(
     s
 }
 
-// The height at each of n oversamples, `up` layers above its frame's layer; what comes back is how many readings were held.
+// The height at each of n oversamples, `up` layers above its frame's layer; what comes back is what the readings held.
 pub fn heights(
     n: usize,
     up: usize,
@@ -87,24 +89,25 @@ pub fn heights(
     ys: &[f32],
     layers: &[u32],
     zs: &mut [f32],
-) -> usize
+) -> Holds
     requires { ⌜ Lent (now bank) (now map) ⌝ }
     requires { ⌜ (n ≤ length (now xs)) × ((n ≤ length (now ys)) × ((n ≤ length (now layers) * oversampling) × (n ≤ length (now zs)))) ⌝ }
     requires { ⌜ ((j : ℕ) → j < n → getD (now layers) (j / oversampling) 0 + up ≤ layerTop (now map) + 1) ⌝ }
-    ensures { λ r. ⌜ r ≤ n ⌝ }
-    ensures { λ r. ⌜ r ≡ sumOf suc (λ (j : ℕ). stageHeight (now (table .entry)) (now (bank .entry)) (now (map .entry)) (now (xs .entry)) (now (ys .entry)) (now (layers .entry)) up j .held) n 0 ⌝ }
-    ensures { λ _. ⌜ Filled (λ (j : ℕ). stageHeight (now (table .entry)) (now (bank .entry)) (now (map .entry)) (now (xs .entry)) (now (ys .entry)) (now (layers .entry)) up j .value) nan (now (zs .exit)) n ⌝ }
+    ensures { λ r. ⌜ AtMost n r ⌝ }
+    ensures { λ r. ⌜ r ≡ sumOf suc (λ (j : ℕ). stageHeight (now (table .entry)) (now (bank .entry)) (now (map .entry)) (now (xs .entry)) (now (ys .entry)) (now (layers .entry)) up j .holds) n 0 ⌝ }
+    ensures { λ _. ⌜ Filled (λ (j : ℕ). stageHeight (now (table .entry)) (now (bank .entry)) (now (map .entry)) (now (xs .entry)) (now (ys .entry)) (now (layers .entry)) up j .value)
+        nan (now (zs .exit)) n ⌝ }
 {
-    let mut held = 0;
+    let mut holds = utils::holds::none();
     let mut i = 0;
     while i < n {
         let layer = layers[i / OVERSAMPLING] as usize;
         let z = terrain(table, bank, map, xs[i], ys[i], layer + up);
         zs[i] = z.value;
-        held += z.held;
+        holds = utils::holds::plus(holds, z.holds);
         i += 1;
     }
-    held
+    holds
 }
 
 // From one height to the next layer's.
@@ -169,10 +172,10 @@ pub fn finish(table: &[f32; 641], phases: &[f32], aux: &mut [u32])
     }
 }
 
-// The interpolators after a block's frames, and how many readings were held.
+// The interpolators after a block's frames, and what the readings held.
 pub struct Frames {
     pub end: Interpolators,
-    pub held: usize,
+    pub holds: Holds,
 }
 
 // The frames of a block, by the path's two runs. `run` and the runs from `xs` on are overwritten.
@@ -195,11 +198,14 @@ pub fn render_frames(
     requires { ⌜ (top ≡ layerTop (now map)) × (length (now aux) ≡ length (now out)) ⌝ }
     requires { ⌜ Room (length (now out)) (now run) (now «run_2») (now xs) (now z1s) (now layers) (now fractions) ⌝ }
     ensures { λ r. ⌜ r .end ≡ stateAfter interpolatorsNext (length (now (out .entry))) start ⌝ }
-    ensures { λ r. ⌜ FramesDone (now (table .entry)) (now (bank .entry)) (now (map .entry)) (take (oversampling * length (now (out .entry))) (now (run .entry))) (take (oversampling * length (now (out .entry))) (now («run_2» .entry))) start (length (now (out .entry))) (r .held) (now (out .exit)) (now (aux .exit)) ⌝ }
+    ensures { λ r. ⌜ FramesDone (now (table .entry)) (now (bank .entry)) (now (map .entry))
+        (take (oversampling * length (now (out .entry))) (now (run .entry)))
+        (take (oversampling * length (now (out .entry))) (now («run_2» .entry)))
+        start (length (now (out .entry))) (r .holds) (now (out .exit)) (now (aux .exit)) ⌝ }
 {
     let n = out.len();
     let end = shift(start, n, top, run, xs, layers, fractions);
-    let held = heights(
+    let holds_0 = heights(
         n * OVERSAMPLING,
         0,
         table,
@@ -210,7 +216,7 @@ pub fn render_frames(
         layers,
         run,
     );
-    let held_2 = heights(
+    let holds_1 = heights(
         n * OVERSAMPLING,
         1,
         table,
@@ -225,6 +231,6 @@ pub fn render_frames(
     finish(table, xs, aux);
     Frames {
         end,
-        held: held + held_2,
+        holds: utils::holds::plus(holds_0, holds_1),
     }
 }

@@ -11,16 +11,23 @@
 //
 // Based on MIT-licensed code (c) 2021 by Emilie Gillet (emilie.o.gillet@gmail.com)
 ghost use mathlib.Core.Path.{_≡_};
-ghost use Prim.Native.Nat.{_≤_};
 ghost use lib.ListN.{length};
-ghost use Rattle.wave_terrain_engine.specs.Block.{Lent, terrainFresh, numTerrains, layerTop, radiusOf, interpolatorsOf, terrainBlock, Renders};
+ghost use Rattle.utils.specs.Rendered.{Places, Renders};
+ghost use Rattle.wave_terrain_engine.specs.Block.{Lent, fresh, numTerrains, layerTop, radiusOf, interpolatorsOf, rendered};
 use frames::Interpolators;
 use oscillator::sine_oscillator::FastSineOscillator;
+use utils::engine::CORNERS_LENGTH;
 use utils::engine::EngineParameters;
+use utils::engine::MOST_FRAMES;
+use utils::engine::RUN_LENGTH;
+use utils::holds::Holds;
 use utils::parameter_interpolator::ParameterInterpolator;
 
 mod frames;
 mod terrain;
+
+// The bytes of a map.
+pub const MAP_LENGTH: usize = terrain::TERRAIN_SIZE * terrain::TERRAIN_SIZE;
 
 pub struct WaveTerrainEngine {
     pub path: FastSineOscillator,
@@ -28,10 +35,10 @@ pub struct WaveTerrainEngine {
     pub terrain_idx: f32,
 }
 
-// The state after a block, and how many of its readings were held.
-pub struct Rendered {
+// The state after a block, and what its readings held.
+pub struct Block {
     pub state: WaveTerrainEngine,
-    pub held: usize,
+    pub holds: Holds,
 }
 
 impl WaveTerrainEngine {
@@ -46,7 +53,7 @@ impl WaveTerrainEngine {
     pub const BANK_EDGE: usize = 25209;
 
     pub fn init() -> WaveTerrainEngine
-        ensures { λ r. ⌜ r ≡ terrainFresh ⌝ }
+        ensures { λ r. ⌜ r ≡ fresh ⌝ }
     {
         WaveTerrainEngine {
             path: FastSineOscillator::init(),
@@ -65,18 +72,19 @@ impl WaveTerrainEngine {
         sine: &[f32; 641],
         high: &[f32; 256],
         low: &[f32; 256],
-        layers: &mut [u32; 128],
-        run_1: &mut [f32; 256],
-        run_2: &mut [f32; 256],
-        run_3: &mut [f32; 256],
-        run_4: &mut [f32; 256],
-        fractions: &mut [f32; 1024],
+        layers: &mut [u32; MOST_FRAMES],
+        run_1: &mut [f32; RUN_LENGTH],
+        run_2: &mut [f32; RUN_LENGTH],
+        run_3: &mut [f32; RUN_LENGTH],
+        run_4: &mut [f32; RUN_LENGTH],
+        fractions: &mut [f32; CORNERS_LENGTH],
         out: &mut [u32],
         aux: &mut [u32],
-    ) -> Rendered
+    ) -> Block
         requires { ⌜ Lent (now bank) (now map) ⌝ }
-        requires { ⌜ (length (now out) ≤ 128) × (length (now aux) ≡ length (now out)) ⌝ }
-        ensures { λ r. ⌜ Renders (terrainBlock (now (sine .entry)) (now (high .entry)) (now (low .entry)) (now (bank .entry)) (now (map .entry)) (length (now (out .entry))) parameters self) (length (now (out .entry))) (r .state) (r .held) (now (out .exit)) (now (aux .exit)) ⌝ }
+        requires { ⌜ Places (now out) (now aux) ⌝ }
+        ensures { λ r. ⌜ Renders (rendered (now (bank .entry)) (now (map .entry)) (now (sine .entry)) (now (high .entry)) (now (low .entry)) (length (now (out .entry))) parameters self)
+            (length (now (out .entry))) (r .state) (r .holds) (now (out .exit)) (now (aux .exit)) ⌝ }
     {
         let n = out.len();
         let f0 = utils::engine::note_to_frequency(
@@ -109,13 +117,14 @@ impl WaveTerrainEngine {
             out,
             aux,
         );
-        Rendered {
+        let holds = frames.holds;
+        Block {
             state: WaveTerrainEngine {
                 path,
                 offset: frames.end.offset.value,
                 terrain_idx: frames.end.terrain_idx.value,
             },
-            held: frames.held,
+            holds,
         }
     }
 

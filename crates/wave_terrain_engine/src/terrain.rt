@@ -5,23 +5,27 @@ ghost use Prim.Native.Nat.{_+_, _≤_, min};
 ghost use lib.ListN.{length};
 ghost use Rattle.words.specs.Binary32.{_⊖_};
 ghost use Rattle.words.specs.Parts.{wholePart, wholeFloat};
+ghost use Rattle.oscillator.specs.Bank.{bankLength};
 ghost use Rattle.wave_terrain_engine.specs.Block.{Lent, layerTop};
 ghost use Rattle.wave_terrain_engine.specs.Stages.{reach};
-ghost use Rattle.wave_terrain_engine.specs.Heights.{mapLength, bankLength, squashOf, terrain0, terrain1, terrain2, terrain3, terrain4, heldPlace, terrainLookup, terrainLookupWt, terrainOf};
+ghost use Rattle.wave_terrain_engine.specs.Heights.{mapLength, squashOf, terrain0, terrain1, terrain2, terrain3, terrain4, heldPlace, terrainLookup, terrainLookupWt, unheld, terrainOf};
+use oscillator::bank::TABLE_SIZE_F;
+use oscillator::bank::WAVE_LENGTH;
 use oscillator::sine_oscillator::sine;
 use oscillator::wavetable_oscillator::interpolate_integrated_wave;
 use oscillator::wavetable_oscillator::interpolate_wave_u8;
+use utils::holds::Holds;
 
-// A height, and how many of its readings were held.
+// A height, and what its reading held.
 pub struct Reading {
     pub value: f32,
-    pub held: usize,
+    pub holds: Holds,
 }
 
-// Where a reading starts, and whether it was held there.
+// Where a reading starts, and what was held there.
 pub struct Place {
     pub flat: usize,
-    pub held: usize,
+    pub holds: Holds,
 }
 
 // A coordinate of a reading: its whole part, as far as that decides, and its fraction.
@@ -31,18 +35,14 @@ struct Coordinate {
 }
 
 // Rows and columns of a map, and half of the columns that a reading can start in.
-const TERRAIN_SIZE: usize = 64;
+pub const TERRAIN_SIZE: usize = 64;
 
-const COORD_SCALE: f32 = 62.0 * 0.5;
+const COORD_SCALE: f32 = (TERRAIN_SIZE - 2) as f32 * 0.5;
 
-// Samples of a wave in the bank, without and with its 4 wrapped ones, and waves of each of the three terrains in it.
-const TABLE_SIZE: f32 = 128.0;
-
-const TABLE_SIZE_FULL: usize = 132;
-
+// Waves of each of the three terrains in the bank.
 const NUM_WAVES: usize = 64;
 
-const LAST_WAVE: f32 = 63.0;
+const LAST_WAVE: f32 = (NUM_WAVES - 1) as f32;
 
 // Where the whole part of a coordinate is cut off: above every edge.
 const REACH: usize = 65535;
@@ -124,17 +124,20 @@ fn coordinate_at(x: f32) -> Coordinate
     }
 }
 
-// `flat`, held at an edge.
-fn held_place(edge: usize, flat: usize) -> Place
-    ensures { λ r. ⌜ r ≡ heldPlace edge flat ⌝ }
+// `flat`, held at an edge, where that counts as `hold`.
+fn held_place(hold: Holds, edge: usize, flat: usize) -> Place
+    ensures { λ r. ⌜ r ≡ heldPlace hold edge flat ⌝ }
 {
     if flat > edge {
         Place {
             flat: edge,
-            held: 1,
+            holds: hold,
         }
     } else {
-        Place { flat, held: 0 }
+        Place {
+            flat,
+            holds: Holds { held: 0 },
+        }
     }
 }
 
@@ -146,14 +149,16 @@ fn terrain_lookup(map: &[u8], x: f32, y: f32) -> Reading
     let cx = coordinate_at((x + 1.0) * COORD_SCALE);
     let cy = coordinate_at((y + 1.0) * COORD_SCALE);
     let place = held_place(
+        Holds { held: 1 },
         crate::WaveTerrainEngine::MAP_EDGE,
         TERRAIN_SIZE * cy.whole + cx.whole,
     );
     let near = interpolate_wave_u8(map, place.flat, cx.fraction);
     let far = interpolate_wave_u8(map, place.flat + TERRAIN_SIZE, cx.fraction);
+    let holds = place.holds;
     Reading {
         value: (near + (far - near) * cy.fraction) * (1.0 / 128.0),
-        held: place.held,
+        holds,
     }
 }
 
@@ -163,17 +168,29 @@ fn terrain_lookup_wt(bank: &[i16], x: f32, y: f32, number: usize) -> Reading
     requires { ⌜ (length (now bank) ≡ bankLength) × (number ≤ 2) ⌝ }
     ensures { λ r. ⌜ r ≡ terrainLookupWt (now (bank .entry)) x y number ⌝ }
 {
-    let sample = coordinate_at((y + 1.0) * 0.5 * TABLE_SIZE);
+    let sample = coordinate_at((y + 1.0) * 0.5 * TABLE_SIZE_F);
     let wt = coordinate_at((x + 1.0) * 0.5 * LAST_WAVE);
     let place = held_place(
+        Holds { held: 1 },
         crate::WaveTerrainEngine::BANK_EDGE,
-        NUM_WAVES * TABLE_SIZE_FULL * number + TABLE_SIZE_FULL * wt.whole + sample.whole,
+        NUM_WAVES * WAVE_LENGTH * number + WAVE_LENGTH * wt.whole + sample.whole,
     );
     let near = interpolate_integrated_wave(bank, place.flat, sample.fraction);
-    let far = interpolate_integrated_wave(bank, place.flat + TABLE_SIZE_FULL, sample.fraction);
+    let far = interpolate_integrated_wave(bank, place.flat + WAVE_LENGTH, sample.fraction);
+    let holds = place.holds;
     Reading {
         value: (near + (far - near) * wt.fraction) * (1.0 / 1024.0),
-        held: place.held,
+        holds,
+    }
+}
+
+// A height that no reading gives.
+fn unheld(value: f32) -> Reading
+    ensures { λ r. ⌜ r ≡ unheld value ⌝ }
+{
+    Reading {
+        value,
+        holds: Holds { held: 0 },
     }
 }
 
@@ -191,26 +208,11 @@ pub fn terrain(
     ensures { λ r. ⌜ r ≡ terrainOf (now (table .entry)) (now (bank .entry)) (now (map .entry)) x y «terrain_index» ⌝ }
 {
     match terrain_index {
-        0 => Reading {
-            value: terrain_0(table, x, y),
-            held: 0,
-        },
-        1 => Reading {
-            value: terrain_1(table, x, y),
-            held: 0,
-        },
-        2 => Reading {
-            value: terrain_2(table, x, y),
-            held: 0,
-        },
-        3 => Reading {
-            value: terrain_3(table, x, y),
-            held: 0,
-        },
-        4 => Reading {
-            value: terrain_4(table, x, y),
-            held: 0,
-        },
+        0 => unheld(terrain_0(table, x, y)),
+        1 => unheld(terrain_1(table, x, y)),
+        2 => unheld(terrain_2(table, x, y)),
+        3 => unheld(terrain_3(table, x, y)),
+        4 => unheld(terrain_4(table, x, y)),
         5 => terrain_lookup_wt(bank, x, y, 2),
         6 => terrain_lookup_wt(bank, x, y, 1),
         7 => terrain_lookup_wt(bank, x, y, 0),

@@ -1,13 +1,16 @@
 -- A block in stages is the block frame by frame: at each frame, what a stage leaves is what the definition has from the state before that frame.
 use mathlib.Core.Path.{_≡_, refl, sym, ap, _∙_, subst}
 use mathlib.Core.List.{List}
-use Prim.Native.Nat.{ℕ, zero, suc, _+_, _≤_, _<_}
+use Prim.Native.Nat.{ℕ, zero, suc, _*_, _≤_, _<_}
 use native.Mathlib.Omega.{arith}
 use lib.IntN.{ℤ}
 use lib.ListN.{length, getD}
 use lib.Ieee.{Float, nan, binary32, toBits}
+use Rattle.utils.specs.Holds.{total, AtMost}
 use Rattle.utils.specs.Frames.{stateAfter, eachOf, sumOf, Filled}
-use Rattle.utils.proofs.Frames.{after-suc, each-length, each-at, sum-most, part-after, filled-all}
+use Rattle.utils.specs.Rendered.{Renders}
+use Rattle.utils.proofs.Sums.{most-more}
+use Rattle.utils.proofs.Frames.{after-suc, each-length, each-at, sum-most, part-after, part-each, filled-all}
 use Rattle.oscillator.specs.declared.wavetable_oscillator.Differentiator.{Differentiator}
 use Rattle.utils.specs.declared.engine.EngineParameters.{EngineParameters}
 use Rattle.wavetable_engine.specs.declared.WavetableEngine.{WavetableEngine}
@@ -17,14 +20,7 @@ use Rattle.wavetable_engine.specs.declared.frames.Walked.{Walked}
 use Rattle.wavetable_engine.specs.Wavetable.{moved, partsOf, reading, lofi, Frame, framed, setUp, rendered}
 use Rattle.wavetable_engine.specs.Stages.{WalkedBy, KeysFit, CornersRead, mixAt, Differentiating, differentiate, differentiating, sampleOf}
 use Rattle.wavetable_engine.proofs.Keys.{key-fits, corners-by-key}
-use Rattle.wavetable_engine.proofs.Walking.{heldAt, held-most, parts-fit}
-
--- a count that follows from a part of the state that goes its own way
-part-sum : {S P : Type 0} (next : S → S) (part : S → P) (step : P → P) (f : S → ℕ) (g : P → ℕ) → ((s : S) → part (next s) ≡ step (part s)) → ((s : S) → f s ≡ g (part s)) → (n : ℕ) (s : S) → sumOf next f n s ≡ sumOf step g n (part s)
-unfolding sumOf
-part-sum next part step f g h e zero s = refl
-part-sum next part step f g h e (suc n) s =
-    ap (λ (k : ℕ). k + sumOf next f n (next s)) (e s) ∙ ap (λ (k : ℕ). g (part s) + k) (part-sum next part step f g h e n (next s) ∙ ap (sumOf step g n) (h s))
+use Rattle.wavetable_engine.proofs.Walking.{holdsAt, frame-most, parts-fit}
 
 -- the keys of a walk fit
 pub keys-fit : (lp : Float) (start : Positions) (size : ℕ) (r : Walked) (keys : List ℕ) (xs ys zs phases : List Float) → WalkedBy lp start size r keys xs ys zs phases → KeysFit keys size
@@ -50,13 +46,10 @@ module _ (bank : List ℤ) (lp : Float) (start : Frame) where
   unfolding framed
   positions-after j = part-after next (λ (f : Frame). f .positions) (moved lp) (λ f. refl) j start
 
-  pub held-after : (size : ℕ) → sumOf next (λ f. framed bank lp f .held) size start ≡ sumOf (moved lp) (heldAt lp) size (start .positions)
+  pub holds-after : (size : ℕ) → sumOf next (λ f. framed bank lp f .holds) size start ≡ sumOf (moved lp) (holdsAt lp) size (start .positions)
   unfolding framed
-  held-after size = part-sum next (λ (f : Frame). f .positions) (moved lp) (λ f. framed bank lp f .held) (heldAt lp) (λ f. refl) (λ f. refl) size start
-
-  pub held-few : (size : ℕ) → sumOf next (λ f. framed bank lp f .held) size start ≤ size
-  unfolding framed
-  held-few size = omega (arith, sum-most next (λ f. framed bank lp f .held) 1 (λ f. held-most (partsOf (moved lp (f .positions)))) size start)
+  holds-after size =
+      ap total (part-each next (λ (f : Frame). f .positions) (moved lp) (λ f. framed bank lp f .holds) (holdsAt lp) (λ f. refl) (λ f. refl) size start)
 
   differentiated-on : (f : Frame) → differentiate (reading bank (partsOf (moved lp (f .positions)))) (begun f) ≡ begun (next f)
   unfolding framed moved
@@ -83,7 +76,8 @@ module _ (bank : List ℤ) (lp : Float) (start : Frame) where
         ∙ sample-on (at j)
 
   -- the folded corners of frame j
-  pub mix-at : (size : ℕ) (r : Walked) (keys : List ℕ) (xs ys zs phases corners : List Float) → WalkedBy lp (start .positions) size r keys xs ys zs phases → CornersRead bank keys phases corners size → (j : ℕ) → j < size → mixAt xs ys zs corners j ≡ readingAt j
+  pub mix-at : (size : ℕ) (r : Walked) (keys : List ℕ) (xs ys zs phases corners : List Float)
+      → WalkedBy lp (start .positions) size r keys xs ys zs phases → CornersRead bank keys phases corners size → (j : ℕ) → j < size → mixAt xs ys zs corners j ≡ readingAt j
   unfolding reading
   mix-at size r keys xs ys zs phases corners w c j h =
       rw (
@@ -98,7 +92,8 @@ module _ (bank : List ℤ) (lp : Float) (start : Frame) where
       )
 
   -- a list of words, one a frame
-  pub words-are : (size : ℕ) (f : Float → Float) (g : Frame → Float) (samples : List Float) (out : List ℕ) → length out ≡ size → ((j : ℕ) → j < size → f (getD samples j nan) ≡ g (at j)) → Filled (λ j. toBits binary32 (f (getD samples j nan))) 0 out size → out ≡ eachOf next (λ s. toBits binary32 (g s)) size start
+  pub words-are : (size : ℕ) (f : Float → Float) (g : Frame → Float) (samples : List Float) (out : List ℕ) → length out ≡ size
+      → ((j : ℕ) → j < size → f (getD samples j nan) ≡ g (at j)) → Filled (λ j. toBits binary32 (f (getD samples j nan))) 0 out size → out ≡ eachOf next (λ s. toBits binary32 (g s)) size start
   words-are size f g samples out e same p =
       filled-all _ 0 out (eachOf next (λ s. toBits binary32 (g s)) size start) (each-length next _ size start ∙ sym e)
       (λ j h. let l : j < size = omega arith in each-at next _ 0 size start j l ∙ ap (toBits binary32) (sym (same j l)))
@@ -125,7 +120,8 @@ pub record Staged (bank : List ℤ) (size : ℕ) (m : SetUp) (d₀ : Differentia
   pub aux-long : length aux ≡ size
 
 -- said of the set-up by another name
-pub set-up-by : (bank : List ℤ) (size : ℕ) (m n : SetUp) (d₀ : Differentiator) (r : Walked) (d : Differentiator) (out aux : List ℕ) → m ≡ n → Staged bank size m d₀ r d out aux → Staged bank size n d₀ r d out aux
+pub set-up-by : (bank : List ℤ) (size : ℕ) (m n : SetUp) (d₀ : Differentiator) (r : Walked) (d : Differentiator) (out aux : List ℕ)
+    → m ≡ n → Staged bank size m d₀ r d out aux → Staged bank size n d₀ r d out aux
 set-up-by bank size m n d₀ r d out aux e g = subst (λ (k : SetUp). Staged bank size k d₀ r d out aux) e g
 
 module _ (bank : List ℤ) (high low : List Float) (size : ℕ) (parameters : EngineParameters) (s : WavetableEngine) where
@@ -145,40 +141,48 @@ module _ (bank : List ℤ) (high low : List Float) (size : ℕ) (parameters : En
     sample-is : (j : ℕ) → j < size → getD (g .samples) j nan ≡ framed bank lp (at bank lp start j) .out
     sample-is j h = g .samples-are .done j h ∙ sample-at bank lp start size (g .mixes) same j h
 
-    pub out-is : out ≡ rendered bank high low size parameters s .out
+    out-is : out ≡ rendered bank high low size parameters s .out
     unfolding rendered
     out-is = words-are bank lp start size (λ x. x) (λ f. framed bank lp f .out) (g .samples) out (g .out-long) sample-is (g .out-are)
 
-    pub aux-is : aux ≡ rendered bank high low size parameters s .aux
+    aux-is : aux ≡ rendered bank high low size parameters s .aux
     unfolding rendered framed
     aux-is = words-are bank lp start size lofi (λ f. lofi (framed bank lp f .out)) (g .samples) aux (g .aux-long) (λ j h. ap lofi (sample-is j h)) (g .aux-are)
 
-    pub held-is : r .held ≡ rendered bank high low size parameters s .held
+    holds-are : r .holds ≡ rendered bank high low size parameters s .holds
     unfolding rendered
-    held-is = g .walked .held-is ∙ sym (held-after bank lp start size)
+    holds-are = g .walked .holds-are ∙ sym (holds-after bank lp start size)
 
-    pub held-fits : r .held ≤ size
-    held-fits = rw (g .walked .held-is ∙ sym (held-after bank lp start size)) (held-few bank lp start size)
+    holds-few : AtMost (4 * size) (r .holds)
+    holds-few = rw (g .walked .holds-are) (most-more (omega arith) (sum-most (moved lp) (holdsAt lp) 1 (λ p. frame-most (partsOf (moved lp p))) size (m .start)))
 
-    pub end-is : r .end ≡ at bank lp start size .positions
+    end-is : r .end ≡ at bank lp start size .positions
     end-is = g .walked .end-is ∙ sym (positions-after bank lp start size)
 
-    pub diff-out-is : d ≡ at bank lp start size .«diff_out»
+    diff-out-is : d ≡ at bank lp start size .«diff_out»
     diff-out-is = g .diff-is ∙ ap (λ (t : Differentiating). t .«diff_out») (differentiating-after bank lp start size (g .mixes) same size (omega arith))
 
-    pub state-is : _≡_ {A = WavetableEngine} (record {
-      phase = r .end .phase;
-      «x_pre_lp» = m .«x_pre_lp»;
-      «y_pre_lp» = m .«y_pre_lp»;
-      «z_pre_lp» = m .«z_pre_lp»;
-      «x_lp» = r .end .«x_lp»;
-      «y_lp» = r .end .«y_lp»;
-      «z_lp» = r .end .«z_lp»;
-      «previous_x» = r .end .«x_modulation» .value;
-      «previous_y» = r .end .«y_modulation» .value;
-      «previous_z» = r .end .«z_modulation» .value;
-      «previous_f0» = r .end .«f0_modulation» .value;
-      «diff_out» = d;
-    }) (rendered bank high low size parameters s .state)
+    -- the state that the code makes up
+    abbrev left : WavetableEngine
+    left =
+        record {
+          phase = r .end .phase;
+          «x_pre_lp» = m .«x_pre_lp»;
+          «y_pre_lp» = m .«y_pre_lp»;
+          «z_pre_lp» = m .«z_pre_lp»;
+          «x_lp» = r .end .«x_lp»;
+          «y_lp» = r .end .«y_lp»;
+          «z_lp» = r .end .«z_lp»;
+          «previous_x» = r .end .«x_modulation» .value;
+          «previous_y» = r .end .«y_modulation» .value;
+          «previous_z» = r .end .«z_modulation» .value;
+          «previous_f0» = r .end .«f0_modulation» .value;
+          «diff_out» = d;
+        }
+
+    state-is : left ≡ rendered bank high low size parameters s .state
     unfolding rendered
     state-is = rw (end-is, diff-out-is)
+
+    pub renders : Renders (rendered bank high low size parameters s) size left (r .holds) out aux
+    renders = record { out-is = out-is; aux-is = aux-is; state-is = state-is; holds-is = holds-are; holds-most = holds-few }

@@ -20,7 +20,8 @@ level-read : (bank : List ℤ) (x y z p : ℕ) (f : Float) → readLevel bank (p
 unfolding placesOfLevel readWave
 level-read bank x y z p f = simp from-place
 
-pub corners-read : (bank : List ℤ) (s : Places) (p : ℕ) (f : Float) → s ≡ placesOf (s .key) → readLevel bank (s .z0) p f ∷ readLevel bank (s .z1) p f ∷ [] ≡ cornersAt bank p f (s .key % 8) (s .key / 8 % 8) (s .key / 64)
+pub corners-read : (bank : List ℤ) (s : Places) (p : ℕ) (f : Float) → s ≡ placesOf (s .key)
+    → readLevel bank (s .z0) p f ∷ readLevel bank (s .z1) p f ∷ [] ≡ cornersAt bank p f (s .key % 8) (s .key / 8 % 8) (s .key / 64)
 unfolding placesOf cornersAt
 corners-read bank s p f e =
     ap (λ (t : Places). readLevel bank (t .z0) p f ∷ readLevel bank (t .z1) p f ∷ []) e ∙ rw (level-read, level-read)

@@ -22,7 +22,8 @@ module _ (readings : List Float) (start : Differentiating) where
   unfolding differentiating
   begins samples = record { state-is = refl; samples-are = filled-none _ _ samples }
 
-  pub goes-on : (samples : List Float) (s : Differentiating) (i : ℕ) → i < length samples → Going readings start samples s i → Going readings start (set samples i (sampleOf (getD readings i nan) s)) (differentiate (getD readings i nan) s) (i + 1)
+  pub goes-on : (samples : List Float) (s : Differentiating) (i : ℕ) → i < length samples → Going readings start samples s i
+      → Going readings start (set samples i (sampleOf (getD readings i nan) s)) (differentiate (getD readings i nan) s) (i + 1)
   unfolding differentiating
   goes-on samples s i l g =
       record {

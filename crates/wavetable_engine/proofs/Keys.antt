@@ -18,7 +18,8 @@ above n m b z h = add-mul-div-right n m z ∙ ap (λ (k : ℕ). k + m) (div-eq-o
 pub key-fits : (p : Parts) → PartsFit p → KeyFits (keyOf p)
 key-fits p f = record { level = omega arith; phase = omega arith }
 
-pub corners-by-key : (bank : List ℤ) (p : Parts) → PartsFit p → cornersOf bank (keyOf p) (p .phase .fraction) ≡ cornersAt bank (p .phase .whole) (p .phase .fraction) (p .x .whole) (p .y .whole) (p .z .whole)
+pub corners-by-key : (bank : List ℤ) (p : Parts) → PartsFit p
+    → cornersOf bank (keyOf p) (p .phase .fraction) ≡ cornersAt bank (p .phase .whole) (p .phase .fraction) (p .x .whole) (p .y .whole) (p .z .whole)
 corners-by-key bank p f =
     let x = p .x .whole in
     let y = p .y .whole in

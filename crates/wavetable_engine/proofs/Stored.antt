@@ -68,7 +68,8 @@ module _ (bank : List ℤ) (keys : List ℕ) (phases : List Float) where
   pub none-read : (l : List Float) → CornersRead bank keys phases l 0
   none-read l = record { each-read = λ j h. absurd (not-suc-le-zero h) }
 
-  pub one-more-read : (l : List Float) (i : ℕ) → i * 8 + 7 < length l → CornersRead bank keys phases l i → CornersRead bank keys phases (stored l (i * 8) (cornersOf bank (getD keys i 0) (getD phases i nan))) (i + 1)
+  pub one-more-read : (l : List Float) (i : ℕ) → i * 8 + 7 < length l → CornersRead bank keys phases l i
+      → CornersRead bank keys phases (stored l (i * 8) (cornersOf bank (getD keys i 0) (getD phases i nan))) (i + 1)
   one-more-read l i h r =
       record {
         each-read = below-more _ _

@@ -1,71 +1,81 @@
--- The walk goes on: the positions, the count of frames with a hold and the five lists are those of one more frame. And the parts of positions keep within their tops.
+-- The walk goes on: the positions, what the frames held and the five lists are those of one more frame. And the parts of positions keep within their tops.
 use mathlib.Core.Path.{_≡_, refl, ap, _∙_, subst}
 use mathlib.Core.Bool.{Bool, true, false, cond, _||_}
 use mathlib.Core.List.{List}
-use Prim.Native.Nat.{ℕ, _+_, _≤_, _<_, zero-le}
-use native.Mathlib.Numerals.{add-one}
+use Prim.Native.Nat.{ℕ, _+_, _≤_, _<_}
 use native.Mathlib.Omega.{arith}
 use lib.ListN.{length, set, length-set}
 use lib.Ieee.{Float, nan}
 use Rattle.words.proofs.Parts.{part-most}
-use Rattle.utils.specs.Frames.{stateAfter, sumOf, Filled}
-use Rattle.utils.proofs.Frames.{filled-none, filled-more, after-suc, sum-suc}
+use Rattle.utils.specs.Holds.{none, plus, total, AtMost}
+use Rattle.utils.specs.Frames.{stateAfter, eachOf, sumOf, Filled}
+use Rattle.utils.specs.declared.holds.Holds.{Holds}
+use Rattle.utils.proofs.Sums.{most-none, most-plus}
+use Rattle.utils.proofs.Frames.{filled-none, filled-more, after-more, sum-more}
 use Rattle.wavetable_engine.specs.declared.frames.Positions.{Positions}
 use Rattle.wavetable_engine.specs.declared.frames.Parts.{Parts}
-use Rattle.wavetable_engine.specs.Wavetable.{moved, partsOf, heldOf}
+use Rattle.wavetable_engine.specs.Wavetable.{xTop, yTop, zTop, phaseTop, moved, partsOf, frameHold, holdsOf}
 use Rattle.wavetable_engine.specs.Stages.{keyOf, partsAt, PartsFit, WalkedBy}
 
 pub parts-fit : (p : Parts) (s : Positions) → p ≡ partsOf s → PartsFit p
 unfolding partsOf
 parts-fit p s e =
     record {
-      x-fits = part-most (p .x) 7 _ (ap (λ (q : Parts). q .x) e);
-      y-fits = part-most (p .y) 7 _ (ap (λ (q : Parts). q .y) e);
-      z-fits = part-most (p .z) 6 _ (ap (λ (q : Parts). q .z) e);
-      phase-fits = part-most (p .phase) 127 _ (ap (λ (q : Parts). q .phase) e);
+      x-fits = part-most (p .x) xTop _ (ap (λ (q : Parts). q .x) e);
+      y-fits = part-most (p .y) yTop _ (ap (λ (q : Parts). q .y) e);
+      z-fits = part-most (p .z) zTop _ (ap (λ (q : Parts). q .z) e);
+      phase-fits = part-most (p .phase) phaseTop _ (ap (λ (q : Parts). q .phase) e);
     }
 
-one-most : (b : Bool) → cond b 1 0 ≤ 1
-one-most true = omega arith
-one-most false = omega arith
+one-most : (b : Bool) → AtMost 1 (cond b frameHold none)
+one-most true = record { held-most = omega arith }
+one-most false = most-none 1
 
-pub held-most : (p : Parts) → heldOf p ≤ 1
-unfolding heldOf
-held-most p = one-most (p .x .held || p .y .held || p .z .held || p .phase .held)
+pub frame-most : (p : Parts) → AtMost 1 (holdsOf p)
+unfolding holdsOf
+frame-most p = one-most (p .x .held || p .y .held || p .z .held || p .phase .held)
 
--- what frame's state s gives to `held`
-abbrev pub heldAt : Float → Positions → ℕ
-heldAt lp s = heldOf (partsOf (moved lp s))
+-- what the frame that begins with s holds
+abbrev pub holdsAt : Float → Positions → Holds
+holdsAt lp s = holdsOf (partsOf (moved lp s))
 
--- the lists have room for every frame
-pub record Room (size : ℕ) (keys : List ℕ) (xs ys zs phases : List Float) : Type 0 where
-  pub few-frames : size ≤ 128
-  pub keys-room : size ≤ length keys
-  pub xs-room : size ≤ length xs
-  pub ys-room : size ≤ length ys
-  pub zs-room : size ≤ length zs
-  pub phases-room : size ≤ length phases
+-- the five lists that the walk fills
+pub record Lists : Type 0 where
+  pub keys : List ℕ
+  pub xs : List Float
+  pub ys : List Float
+  pub zs : List Float
+  pub phases : List Float
 
-pub record Walking (lp : Float) (start : Positions) (size : ℕ) (keys₀ : List ℕ) (xs₀ ys₀ zs₀ phases₀ : List Float) (keys : List ℕ) (xs ys zs phases : List Float) (s : Positions) (count i : ℕ) : Type 0 where
-  pub room : Room size keys₀ xs₀ ys₀ zs₀ phases₀
-  pub keys-long : length keys ≡ length keys₀
-  pub xs-long : length xs ≡ length xs₀
-  pub ys-long : length ys ≡ length ys₀
-  pub zs-long : length zs ≡ length zs₀
-  pub phases-long : length phases ≡ length phases₀
-  pub few : count ≤ i
+-- room for every frame
+pub record Room (size : ℕ) (l : Lists) : Type 0 where
+  pub keys-room : size ≤ length (l .keys)
+  pub xs-room : size ≤ length (l .xs)
+  pub ys-room : size ≤ length (l .ys)
+  pub zs-room : size ≤ length (l .zs)
+  pub phases-room : size ≤ length (l .phases)
+
+-- the walk after i frames
+pub record Walking (lp : Float) (start : Positions) (size : ℕ) (l₀ l : Lists) (s : Positions) (holds : Holds) (i : ℕ) : Type 0 where
+  pub room : Room size l₀
+  pub keys-long : length (l .keys) ≡ length (l₀ .keys)
+  pub xs-long : length (l .xs) ≡ length (l₀ .xs)
+  pub ys-long : length (l .ys) ≡ length (l₀ .ys)
+  pub zs-long : length (l .zs) ≡ length (l₀ .zs)
+  pub phases-long : length (l .phases) ≡ length (l₀ .phases)
+  pub few : AtMost i holds
   pub state-is : s ≡ stateAfter (moved lp) i start
-  pub count-is : count ≡ sumOf (moved lp) (heldAt lp) i start
-  pub keys-done : Filled (λ j. keyOf (partsAt lp start j)) 0 keys i
-  pub xs-done : Filled (λ j. partsAt lp start j .x .fraction) nan xs i
-  pub ys-done : Filled (λ j. partsAt lp start j .y .fraction) nan ys i
-  pub zs-done : Filled (λ j. partsAt lp start j .z .fraction) nan zs i
-  pub phases-done : Filled (λ j. partsAt lp start j .phase .fraction) nan phases i
+  pub holds-are : holds ≡ sumOf (moved lp) (holdsAt lp) i start
+  pub keys-done : Filled (λ j. keyOf (partsAt lp start j)) 0 (l .keys) i
+  pub xs-done : Filled (λ j. partsAt lp start j .x .fraction) nan (l .xs) i
+  pub ys-done : Filled (λ j. partsAt lp start j .y .fraction) nan (l .ys) i
+  pub zs-done : Filled (λ j. partsAt lp start j .z .fraction) nan (l .zs) i
+  pub phases-done : Filled (λ j. partsAt lp start j .phase .fraction) nan (l .phases) i
 
-module _ (lp : Float) (start : Positions) (size : ℕ) where
-  pub begins : (keys : List ℕ) (xs ys zs phases : List Float) → Room size keys xs ys zs phases → Walking lp start size keys xs ys zs phases keys xs ys zs phases start 0 0
-  unfolding stateAfter sumOf
-  begins keys xs ys zs phases r =
+module _ (lp : Float) (start : Positions) (size : ℕ) (l₀ : Lists) where
+  pub begins : Room size l₀ → Walking lp start size l₀ l₀ start none 0
+  unfolding stateAfter eachOf total
+  begins r =
       record {
         room = r;
         keys-long = refl;
@@ -73,49 +83,61 @@ module _ (lp : Float) (start : Positions) (size : ℕ) where
         ys-long = refl;
         zs-long = refl;
         phases-long = refl;
-        few = zero-le;
+        few = most-none 0;
         state-is = refl;
-        count-is = refl;
-        keys-done = filled-none _ _ keys;
-        xs-done = filled-none _ _ xs;
-        ys-done = filled-none _ _ ys;
-        zs-done = filled-none _ _ zs;
-        phases-done = filled-none _ _ phases;
+        holds-are = refl;
+        keys-done = filled-none _ _ (l₀ .keys);
+        xs-done = filled-none _ _ (l₀ .xs);
+        ys-done = filled-none _ _ (l₀ .ys);
+        zs-done = filled-none _ _ (l₀ .zs);
+        phases-done = filled-none _ _ (l₀ .phases);
       }
 
-  module _ (keys₀ : List ℕ) (xs₀ ys₀ zs₀ phases₀ : List Float) (keys : List ℕ) (xs ys zs phases : List Float) (s : Positions) (count i : ℕ) where
+  module _ (l : Lists) (s : Positions) (holds : Holds) (i : ℕ) where
     -- the parts of the frame that begins with s
     abbrev here : Parts
     here = partsOf (moved lp s)
 
-    pub goes-on : i < size → Walking lp start size keys₀ xs₀ ys₀ zs₀ phases₀ keys xs ys zs phases s count i → Walking lp start size keys₀ xs₀ ys₀ zs₀ phases₀ (set keys i (keyOf here)) (set xs i (here .x .fraction)) (set ys i (here .y .fraction)) (set zs i (here .z .fraction)) (set phases i (here .phase .fraction)) (moved lp s) (count + heldOf here) (i + 1)
-    goes-on l w =
+    -- the lists with that frame's
+    abbrev filled : Lists
+    filled =
+        record {
+          keys = set (l .keys) i (keyOf here);
+          xs = set (l .xs) i (here .x .fraction);
+          ys = set (l .ys) i (here .y .fraction);
+          zs = set (l .zs) i (here .z .fraction);
+          phases = set (l .phases) i (here .phase .fraction);
+        }
+
+    pub goes-on : i < size → Walking lp start size l₀ l s holds i → Walking lp start size l₀ filled (moved lp s) (plus holds (holdsOf here)) (i + 1)
+    goes-on h w =
         let r = w .room in
         let e : partsOf (moved lp s) ≡ partsAt lp start i = ap (λ (t : Positions). partsOf (moved lp t)) (w .state-is) in
         record {
           room = r;
-          keys-long = length-set keys i _ ∙ w .keys-long;
-          xs-long = length-set xs i _ ∙ w .xs-long;
-          ys-long = length-set ys i _ ∙ w .ys-long;
-          zs-long = length-set zs i _ ∙ w .zs-long;
-          phases-long = length-set phases i _ ∙ w .phases-long;
-          few = omega (arith, held-most here, w .few);
-          state-is = rw (add-one, after-suc (moved lp) i start) (ap (moved lp) (w .state-is));
-          count-is = rw (add-one, sum-suc (moved lp) (heldAt lp) i start) (ap (λ (n : ℕ). n + heldOf here) (w .count-is) ∙ ap (λ (t : Positions). sumOf (moved lp) (heldAt lp) i start + heldAt lp t) (w .state-is));
-          keys-done = filled-more _ _ keys i _ (omega arith) (ap keyOf e) (w .keys-done);
-          xs-done = filled-more _ _ xs i _ (omega arith) (ap (λ (p : Parts). p .x .fraction) e) (w .xs-done);
-          ys-done = filled-more _ _ ys i _ (omega arith) (ap (λ (p : Parts). p .y .fraction) e) (w .ys-done);
-          zs-done = filled-more _ _ zs i _ (omega arith) (ap (λ (p : Parts). p .z .fraction) e) (w .zs-done);
-          phases-done = filled-more _ _ phases i _ (omega arith) (ap (λ (p : Parts). p .phase .fraction) e) (w .phases-done);
+          keys-long = length-set (l .keys) i _ ∙ w .keys-long;
+          xs-long = length-set (l .xs) i _ ∙ w .xs-long;
+          ys-long = length-set (l .ys) i _ ∙ w .ys-long;
+          zs-long = length-set (l .zs) i _ ∙ w .zs-long;
+          phases-long = length-set (l .phases) i _ ∙ w .phases-long;
+          few = most-plus (w .few) (frame-most here);
+          state-is = after-more (moved lp) i start s (moved lp s) refl (w .state-is);
+          holds-are = sum-more (moved lp) (holdsAt lp) i start s holds (holdsOf here) (w .holds-are) (w .state-is) refl;
+          keys-done = filled-more _ _ (l .keys) i _ (omega arith) (ap keyOf e) (w .keys-done);
+          xs-done = filled-more _ _ (l .xs) i _ (omega arith) (ap (λ (p : Parts). p .x .fraction) e) (w .xs-done);
+          ys-done = filled-more _ _ (l .ys) i _ (omega arith) (ap (λ (p : Parts). p .y .fraction) e) (w .ys-done);
+          zs-done = filled-more _ _ (l .zs) i _ (omega arith) (ap (λ (p : Parts). p .z .fraction) e) (w .zs-done);
+          phases-done = filled-more _ _ (l .phases) i _ (omega arith) (ap (λ (p : Parts). p .phase .fraction) e) (w .phases-done);
         }
 
     -- after the last frame
-    pub ends : i ≡ size → Walking lp start size keys₀ xs₀ ys₀ zs₀ phases₀ keys xs ys zs phases s count i → WalkedBy lp start size (record { end = s; held = count }) keys xs ys zs phases
+    pub ends : i ≡ size → Walking lp start size l₀ l s holds i
+        → WalkedBy lp start size (record { end = s; holds = holds }) (l .keys) (l .xs) (l .ys) (l .zs) (l .phases)
     ends e w =
-        let v = subst (λ (n : ℕ). Walking lp start size keys₀ xs₀ ys₀ zs₀ phases₀ keys xs ys zs phases s count n) e w in
+        let v = subst (Walking lp start size l₀ l s holds) e w in
         record {
           end-is = v .state-is;
-          held-is = v .count-is;
+          holds-are = v .holds-are;
           keys-are = v .keys-done;
           xs-are = v .xs-done;
           ys-are = v .ys-done;

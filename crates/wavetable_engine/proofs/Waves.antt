@@ -5,13 +5,14 @@ use Prim.Native.Nat.{ℕ, _+_, _*_, _%_, _<_}
 use native.Mathlib.Omega.{arith}
 use lib.Dec.{eqb}
 use borrow.Author.Tests.{ne-eqb}
-use Rattle.wavetable_engine.specs.Wavetable.{wave, waves, spread}
+use Rattle.oscillator.specs.Bank.{waves}
+use Rattle.wavetable_engine.specs.Wavetable.{wave, spread}
 
-pub wave-below : (x y z : ℕ) → wave x y z < 192
+pub wave-below : (x y z : ℕ) → wave x y z < waves
 unfolding wave
 wave-below x y z = omega arith
 
-step-by : (b : Bool) (x y z : ℕ) → ((x + y * 8 + z * 64) * cond b 101 1 % 192 + cond b 101 1) % 192 ≡ (x + 1 + y * 8 + z * 64) * cond b 101 1 % 192
+step-by : (b : Bool) (x y z : ℕ) → ((x + y * 8 + z * 64) * cond b 101 1 % waves + cond b 101 1) % waves ≡ (x + 1 + y * 8 + z * 64) * cond b 101 1 % waves
 step-by true x y z = omega arith
 step-by false x y z = omega arith
 
@@ -20,7 +21,7 @@ pub wave-along-x : (x y z : ℕ) → (wave x y z + spread z) % waves ≡ wave (x
 unfolding wave
 wave-along-x x y z = step-by (eqb z 3) x y z
 
-rise-by : (b : Bool) (x y z : ℕ) → ((x + y * 8 + z * 64) * cond b 101 1 % 192 + 8 * cond b 101 1 % 192) % 192 ≡ (x + (y + 1) * 8 + z * 64) * cond b 101 1 % 192
+rise-by : (b : Bool) (x y z : ℕ) → ((x + y * 8 + z * 64) * cond b 101 1 % waves + 8 * cond b 101 1 % waves) % waves ≡ (x + (y + 1) * 8 + z * 64) * cond b 101 1 % waves
 rise-by true x y z = omega arith
 rise-by false x y z = omega arith
 
@@ -35,13 +36,13 @@ wave-low x y z p q r n =
     let l : z < 3 = omega (arith, n) in
     rw (ne-eqb z 3 n) (omega arith)
 
-pub wave-top : (x y : ℕ) → wave x y 3 ≡ (x + y * 8) * 101 % 192
+pub wave-top : (x y : ℕ) → wave x y 3 ≡ (x + y * 8) * 101 % waves
 unfolding wave
 wave-top x y = omega arith
 
-pub spread-below : (z : ℕ) → spread z < 192
+pub spread-below : (z : ℕ) → spread z < waves
 spread-below z = below (eqb z 3)
   where
-    below : (b : Bool) → cond b 101 1 < 192
+    below : (b : Bool) → cond b 101 1 < waves
     below true = omega arith
     below false = omega arith

@@ -9,6 +9,7 @@ use Rattle.words.specs.Binary32.{_⊗_}
 use Rattle.utils.specs.Interpolator.{stepped}
 use Rattle.utils.specs.Frames.{stateAfter, sumOf, Filled}
 use Rattle.utils.specs.declared.parameter_interpolator.ParameterInterpolator.{ParameterInterpolator}
+use Rattle.oscillator.specs.Bank.{bankLength, waveLength}
 use Rattle.oscillator.specs.Readings.{interpolateWaveHermite, floatOfI16, differentiated}
 use Rattle.oscillator.specs.declared.wavetable_oscillator.Differentiator.{Differentiator}
 use Rattle.wavetable_engine.specs.declared.frames.Positions.{Positions}
@@ -16,7 +17,7 @@ use Rattle.wavetable_engine.specs.declared.frames.Parts.{Parts}
 use Rattle.wavetable_engine.specs.declared.frames.Walked.{Walked}
 use Rattle.wavetable_engine.specs.declared.readings.Level.{Level}
 use Rattle.wavetable_engine.specs.declared.readings.Places.{Places}
-use Rattle.wavetable_engine.specs.Wavetable.{wave, waveLength, bankLength, foldLevel, phaseTop, xTop, yTop, zTop, moved, partsOf, heldOf, cornersAt, foldX, foldY, foldZ, cutoffOf, gainOf}
+use Rattle.wavetable_engine.specs.Wavetable.{wave, foldLevel, phaseTop, xTop, yTop, zTop, moved, partsOf, holdsOf, cornersAt, foldX, foldY, foldZ, cutoffOf, gainOf}
 
 -- ---- the walk: where each frame reads
 
@@ -45,7 +46,7 @@ partsAt lp start j = partsOf (moved lp (stateAfter (moved lp) j start))
 -- The walk through `size` frames.
 pub record WalkedBy (lp : Float) (start : Positions) (size : ℕ) (r : Walked) (keys : List ℕ) (xs ys zs phases : List Float) : Type 0 where
   pub end-is : r .end ≡ stateAfter (moved lp) size start
-  pub held-is : r .held ≡ sumOf (moved lp) (λ s. heldOf (partsOf (moved lp s))) size start
+  pub holds-are : r .holds ≡ sumOf (moved lp) (λ s. holdsOf (partsOf (moved lp s))) size start
   pub keys-are : Filled (λ j. keyOf (partsAt lp start j)) 0 keys size
   pub xs-are : Filled (λ j. partsAt lp start j .x .fraction) nan xs size
   pub ys-are : Filled (λ j. partsAt lp start j .y .fraction) nan ys size

@@ -11,35 +11,18 @@ use Rattle.words.specs.Parts.{wholeFloat, wholeI32Float, partOf}
 use Rattle.utils.specs.Utils.{clampOf, minOf, onePole}
 use Rattle.utils.specs.Units.{noteToFrequency}
 use Rattle.utils.specs.Interpolator.{interpolator, stepped}
+use Rattle.utils.specs.Holds.{none}
 use Rattle.utils.specs.Frames.{stateAfter, eachOf, sumOf}
+use Rattle.utils.specs.Rendered.{Rendered}
+use Rattle.utils.specs.declared.holds.Holds.{Holds}
 use Rattle.utils.specs.declared.engine.EngineParameters.{EngineParameters}
+use Rattle.oscillator.specs.Bank.{waves, waveLength, tableSizeF}
 use Rattle.oscillator.specs.Readings.{interpolateWaveHermite, floatOfI16, differentiated}
 use Rattle.oscillator.specs.declared.wavetable_oscillator.Differentiator.{Differentiator}
 use Rattle.wavetable_engine.specs.declared.WavetableEngine.{WavetableEngine}
 use Rattle.wavetable_engine.specs.declared.SetUp.{SetUp}
 use Rattle.wavetable_engine.specs.declared.frames.Positions.{Positions}
 use Rattle.wavetable_engine.specs.declared.frames.Parts.{Parts}
-
--- "Bank: 25,344 i16, lent, 192 waves of 132."
-abbrev pub bankLength : ℕ
-bankLength = 25344
-
-abbrev pub waves : ℕ
-waves = 192
-
-abbrev pub waveLength : ℕ
-waveLength = 132
-
--- TABLE_SIZE: a period of a wave, which has four samples more; and as a float.
-abbrev pub tableSize : ℕ
-tableSize = 128
-
-abbrev pub tableSizeF : Float
-tableSizeF = decimal 128 0
-
--- "Frames 0 or above 128" are refused.
-abbrev pub maxFrames : ℕ
-maxFrames = 128
 
 -- "where r is 101 for z = 3, else 1".
 abbrev pub spread : ℕ → ℕ
@@ -139,8 +122,11 @@ partsOf s =
     }
 
 -- "A frame with any hold adds 1 to `held`."
-unfoldable pub heldOf : Parts → ℕ
-heldOf p = cond (p .x .held || p .y .held || p .z .held || p .phase .held) 1 0
+abbrev pub frameHold : Holds
+frameHold = record { held = 1 }
+
+unfoldable pub holdsOf : Parts → Holds
+holdsOf p = cond (p .x .held || p .y .held || p .z .held || p .phase .held) frameHold none
 
 -- "Each frame takes the eight corner readings, two by two by two": by z, y, x.
 module _ (bank : List ℤ) (phase : ℕ) (fraction : Float) where
@@ -193,7 +179,7 @@ pub record Framed : Type 0 where
   pub next : Frame
   pub out : Float
   pub aux : Float
-  pub held : ℕ
+  pub holds : Holds
 
 -- A frame.
 unfoldable pub framed : List ℤ → Float → Frame → Framed
@@ -207,20 +193,13 @@ framed bank lp s =
       next = record { positions = positions; «diff_out» = d .next };
       out = sample;
       aux = lofi sample;
-      held = heldOf parts;
+      holds = holdsOf parts;
     }
 
 -- ---- a block
 
--- What a block leaves and gives; "Any NaN is written as 7fc00000".
-pub record Rendered : Type 0 where
-  pub state : WavetableEngine
-  pub held : ℕ
-  pub out : List ℕ
-  pub aux : List ℕ
-
--- `render`: a block of `size` frames. The interpolators' end values go back to the state.
-unfoldable pub rendered : List ℤ → List Float → List Float → ℕ → EngineParameters → WavetableEngine → Rendered
+-- `render`: a block of `size` frames. The interpolators' end values go back to the state. "Any NaN is written as 7fc00000".
+unfoldable pub rendered : List ℤ → List Float → List Float → ℕ → EngineParameters → WavetableEngine → Rendered WavetableEngine
 rendered bank high low size parameters s =
     let m = setUp high low size parameters s in
     let frame = framed bank (m .«lp_coefficient») in
@@ -242,9 +221,9 @@ rendered bank high low size parameters s =
             «previous_f0» = end .positions .«f0_modulation» .value;
             «diff_out» = end .«diff_out»;
           };
-      held = sumOf (λ f. frame f .next) (λ f. frame f .held) size start;
       out = eachOf (λ f. frame f .next) (λ f. toBits binary32 (frame f .out)) size start;
       aux = eachOf (λ f. frame f .next) (λ f. toBits binary32 (frame f .aux)) size start;
+      holds = sumOf (λ f. frame f .next) (λ f. frame f .holds) size start;
     }
 
 -- The fresh state: `init`. "previous f0 is 55 / rate", the a0 that is handed in.

@@ -4,9 +4,13 @@ ghost use Prim.Native.Nat.{_≤_};
 ghost use lib.ListN.{length, getD};
 ghost use lib.Ieee.{nan, binary32, toBits};
 ghost use Rattle.utils.specs.Frames.{Filled};
-ghost use Rattle.wavetable_engine.specs.Wavetable.{maxFrames, advanced, moved, partsOf, heldOf, gainOf, cutoffOf, lofi};
+ghost use Rattle.utils.specs.Rendered.{mostFrames};
+ghost use Rattle.wavetable_engine.specs.Wavetable.{advanced, moved, partsOf, holdsOf, gainOf, cutoffOf, lofi};
 ghost use Rattle.wavetable_engine.specs.Stages.{PartsFit, keyOf, WalkedBy, sampleOf, differentiating};
+use oscillator::bank::TABLE_SIZE_F;
 use oscillator::wavetable_oscillator::Differentiator;
+use utils::engine::RUN_LENGTH;
+use utils::holds::Holds;
 use utils::parameter_interpolator::ParameterInterpolator;
 use words::Part;
 
@@ -30,10 +34,10 @@ pub struct Parts {
     pub phase: Part,
 }
 
-// The positions after a block, and how many of its frames had a hold.
+// The positions after a block, and what its frames held.
 pub struct Walked {
     pub end: Positions,
-    pub held: usize,
+    pub holds: Holds,
 }
 
 // The phase one frame on.
@@ -72,21 +76,18 @@ fn parts_of(s: Positions) -> Parts
         x: words::held_part(s.x_lp, crate::WavetableEngine::X_TOP),
         y: words::held_part(s.y_lp, crate::WavetableEngine::Y_TOP),
         z: words::held_part(s.z_lp, crate::WavetableEngine::Z_TOP),
-        phase: words::held_part(
-            s.phase * crate::TABLE_SIZE_F,
-            crate::WavetableEngine::PHASE_TOP,
-        ),
+        phase: words::held_part(s.phase * TABLE_SIZE_F, crate::WavetableEngine::PHASE_TOP),
     }
 }
 
 // 1 for a frame with any hold.
-fn held(p: Parts) -> usize
-    ensures { λ r. ⌜ r ≡ heldOf p ⌝ }
+fn held(p: Parts) -> Holds
+    ensures { λ r. ⌜ r ≡ holdsOf p ⌝ }
 {
     if p.x.held || p.y.held || p.z.held || p.phase.held {
-        1
+        Holds { held: 1 }
     } else {
-        0
+        Holds { held: 0 }
     }
 }
 
@@ -109,12 +110,12 @@ pub fn walk(
     zs: &mut [f32],
     phases: &mut [f32],
 ) -> Walked
-    requires { ⌜ (size ≤ maxFrames) × (size ≤ length (now keys)) ⌝ }
+    requires { ⌜ (size ≤ mostFrames) × (size ≤ length (now keys)) ⌝ }
     requires { ⌜ (size ≤ length (now xs)) × ((size ≤ length (now ys)) × ((size ≤ length (now zs)) × (size ≤ length (now phases)))) ⌝ }
     ensures { λ r. ⌜ WalkedBy «lp_coefficient» start size r (now (keys .exit)) (now (xs .exit)) (now (ys .exit)) (now (zs .exit)) (now (phases .exit)) ⌝ }
 {
     let mut s = start;
-    let mut count = 0;
+    let mut holds = utils::holds::none();
     let mut i = 0;
     while i < size {
         s = next(s, lp_coefficient);
@@ -124,13 +125,10 @@ pub fn walk(
         ys[i] = p.y.fraction;
         zs[i] = p.z.fraction;
         phases[i] = p.phase.fraction;
-        count += held(p);
+        holds = utils::holds::plus(holds, held(p));
         i += 1;
     }
-    Walked {
-        end: s,
-        held: count,
-    }
+    Walked { end: s, holds }
 }
 
 // What makes up for the integration of the waves.
@@ -144,7 +142,7 @@ fn gain(f0: f32) -> f32
 fn cutoff(f0: f32) -> f32
     ensures { λ r. ⌜ r ≡ cutoffOf f0 ⌝ }
 {
-    utils::min(crate::TABLE_SIZE_F * f0, 1.0)
+    utils::min(TABLE_SIZE_F * f0, 1.0)
 }
 
 // The readings of `size` frames made samples.
@@ -152,10 +150,10 @@ pub fn differentiate_all(
     diff_out: Differentiator,
     f0: ParameterInterpolator,
     size: usize,
-    mixes: &[f32; 256],
+    mixes: &[f32; RUN_LENGTH],
     samples: &mut [f32],
 ) -> Differentiator
-    requires { ⌜ (size ≤ maxFrames) × (size ≤ length (now samples)) ⌝ }
+    requires { ⌜ (size ≤ mostFrames) × (size ≤ length (now samples)) ⌝ }
     ensures { λ r. ⌜ r ≡ differentiating (now (mixes .entry)) size (record { «diff_out» = «diff_out»; f0 = f0 }) .«diff_out» ⌝ }
     ensures { λ _. ⌜ Filled (λ j. sampleOf (getD (now (mixes .entry)) j nan) (differentiating (now (mixes .entry)) j (record { «diff_out» = «diff_out»; f0 = f0 }))) nan (now (samples .exit)) size ⌝ }
 {
@@ -180,8 +178,8 @@ fn lofi(x: f32) -> f32
 }
 
 // The samples as words, and again in 5 bits.
-pub fn words_all(samples: &[f32; 256], out: &mut [u32], aux: &mut [u32])
-    requires { ⌜ (length (now out) ≤ maxFrames) × (length (now aux) ≡ length (now out)) ⌝ }
+pub fn words_all(samples: &[f32; RUN_LENGTH], out: &mut [u32], aux: &mut [u32])
+    requires { ⌜ (length (now out) ≤ mostFrames) × (length (now aux) ≡ length (now out)) ⌝ }
     ensures { λ _. ⌜ Filled (λ j. toBits binary32 (getD (now (samples .entry)) j nan)) 0 (now (out .exit)) (length (now (out .entry))) ⌝ }
     ensures { λ _. ⌜ Filled (λ j. toBits binary32 (lofi (getD (now (samples .entry)) j nan))) 0 (now (aux .exit)) (length (now (out .entry))) ⌝ }
 {

@@ -10,20 +10,20 @@
 // AUX signal: low-fi (5-bit) output.
 // Based on MIT-licensed code (c) 2016 by Emilie Gillet (emilie.o.gillet@gmail.com)
 ghost use mathlib.Core.Path.{_≡_};
-ghost use Prim.Native.Nat.{_≤_, _<_};
 ghost use lib.ListN.{length};
-ghost use Rattle.wavetable_engine.specs.Wavetable.{bankLength, maxFrames, fresh, clampBy, quantised, setUp, rendered};
+ghost use Rattle.utils.specs.Rendered.{Places, Renders};
+ghost use Rattle.oscillator.specs.Bank.{bankLength};
+ghost use Rattle.wavetable_engine.specs.Wavetable.{fresh, clampBy, quantised, setUp, rendered};
 use oscillator::wavetable_oscillator::Differentiator;
+use utils::engine::CORNERS_LENGTH;
 use utils::engine::EngineParameters;
+use utils::engine::MOST_FRAMES;
+use utils::engine::RUN_LENGTH;
+use utils::holds::Holds;
 use utils::parameter_interpolator::ParameterInterpolator;
 
-pub mod frames;
-pub mod readings;
-
-// A period of a wave. In the bank, a wave has its first samples once more after its last.
-pub const TABLE_SIZE: usize = 128;
-
-pub const TABLE_SIZE_F: f32 = 128.0;
+mod frames;
+mod readings;
 
 // The state, in the order of its kept words.
 pub struct WavetableEngine {
@@ -41,10 +41,10 @@ pub struct WavetableEngine {
     pub diff_out: Differentiator,
 }
 
-// The state after a block, and how many of its frames had a hold.
+// The state after a block, and what its frames held.
 pub struct Block {
     pub state: WavetableEngine,
-    pub held: usize,
+    pub holds: Holds,
 }
 
 // What a block works out before its frames.
@@ -167,23 +167,19 @@ impl WavetableEngine {
         bank: &[i16],
         high: &[f32; 256],
         low: &[f32; 256],
-        keys: &mut [u32; 128],
-        run_1: &mut [f32; 256],
-        run_2: &mut [f32; 256],
-        run_3: &mut [f32; 256],
-        run_4: &mut [f32; 256],
-        corners: &mut [f32; 1024],
+        keys: &mut [u32; MOST_FRAMES],
+        run_1: &mut [f32; RUN_LENGTH],
+        run_2: &mut [f32; RUN_LENGTH],
+        run_3: &mut [f32; RUN_LENGTH],
+        run_4: &mut [f32; RUN_LENGTH],
+        corners: &mut [f32; CORNERS_LENGTH],
         out: &mut [u32],
         aux: &mut [u32],
     ) -> Block
         requires { ⌜ length (now bank) ≡ bankLength ⌝ }
-        requires { ⌜ (0 < length (now out)) × (length (now out) ≤ maxFrames) ⌝ }
-        requires { ⌜ length (now aux) ≡ length (now out) ⌝ }
-        ensures { λ r. ⌜ r .state ≡ rendered (now (bank .entry)) (now (high .entry)) (now (low .entry)) (length (now (out .entry))) parameters self .state ⌝ }
-        ensures { λ r. ⌜ r .held ≡ rendered (now (bank .entry)) (now (high .entry)) (now (low .entry)) (length (now (out .entry))) parameters self .held ⌝ }
-        ensures { λ r. ⌜ r .held ≤ length (now (out .entry)) ⌝ }
-        ensures { λ _. ⌜ now (out .exit) ≡ rendered (now (bank .entry)) (now (high .entry)) (now (low .entry)) (length (now (out .entry))) parameters self .out ⌝ }
-        ensures { λ _. ⌜ now (aux .exit) ≡ rendered (now (bank .entry)) (now (high .entry)) (now (low .entry)) (length (now (out .entry))) parameters self .aux ⌝ }
+        requires { ⌜ Places (now out) (now aux) ⌝ }
+        ensures { λ r. ⌜ Renders (rendered (now (bank .entry)) (now (high .entry)) (now (low .entry)) (length (now (out .entry))) parameters self)
+            (length (now (out .entry))) (r .state) (r .holds) (now (out .exit)) (now (aux .exit)) ⌝ }
     {
         let size = out.len();
         let m = self.set_up(parameters, high, low, size);
@@ -209,6 +205,7 @@ impl WavetableEngine {
         );
         frames::words_all(run_1, out, aux);
         let end = w.end;
+        let holds = w.holds;
         Block {
             state: WavetableEngine {
                 phase: end.phase,
@@ -224,7 +221,7 @@ impl WavetableEngine {
                 previous_f0: end.f0_modulation.value,
                 diff_out,
             },
-            held: w.held,
+            holds,
         }
     }
 }

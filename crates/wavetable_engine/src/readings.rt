@@ -5,14 +5,16 @@ ghost use mathlib.Core.List.{[], _∷_};
 ghost use lib.ListN.{length};
 ghost use lib.Ieee.{nan};
 ghost use Rattle.utils.specs.Frames.{Filled};
-ghost use Rattle.wavetable_engine.specs.Wavetable.{bankLength, waves, waveLength, tableSize, maxFrames, spread, wave, foldLevel, cornersAt, mix, foldX, foldY, foldZ};
+ghost use Rattle.utils.specs.Rendered.{mostFrames, cornersLength};
+ghost use Rattle.oscillator.specs.Bank.{bankLength, waves, waveLength, tableSize};
+ghost use Rattle.wavetable_engine.specs.Wavetable.{spread, wave, foldLevel, cornersAt, mix, foldX, foldY, foldZ};
 ghost use Rattle.wavetable_engine.specs.Stages.{KeysFit, LevelFits, placesOfLevel, placesOf, readAt, readLevel, CornersRead, stored, loaded, mixAt};
+use oscillator::bank::WAVE_LENGTH;
+use oscillator::bank::WAVES;
 use oscillator::wavetable_oscillator::interpolate_wave_hermite;
-
-// The bank: 192 waves of 132.
-const WAVES: usize = 192;
-
-const WAVE_LENGTH: usize = crate::TABLE_SIZE + 4;
+use utils::engine::CORNERS_LENGTH;
+use utils::engine::MOST_FRAMES;
+use utils::engine::RUN_LENGTH;
 
 // How far apart the neighbours of level 3 lie in the bank, along x and along y.
 const SPREAD: usize = 101;
@@ -178,11 +180,11 @@ fn store(c: [[[f32; 2]; 2]; 2], at: usize, corners: &mut [f32])
 pub fn read_all(
     bank: &[i16],
     size: usize,
-    keys: &[u32; 128],
-    phases: &[f32; 256],
+    keys: &[u32; MOST_FRAMES],
+    phases: &[f32; RUN_LENGTH],
     corners: &mut [f32],
 )
-    requires { ⌜ (length (now bank) ≡ bankLength) × ((size ≤ maxFrames) × (size * 8 ≤ length (now corners))) ⌝ }
+    requires { ⌜ (length (now bank) ≡ bankLength) × ((size ≤ mostFrames) × (size * 8 ≤ length (now corners))) ⌝ }
     requires { ⌜ KeysFit (now keys) size ⌝ }
     ensures { λ _. ⌜ CornersRead (now (bank .entry)) (now (keys .entry)) (now (phases .entry)) (now (corners .exit)) size ⌝ }
 {
@@ -198,8 +200,8 @@ pub fn read_all(
 }
 
 // The corners out of eight places of the list.
-fn load(corners: &[f32; 1024], at: usize) -> [[[f32; 2]; 2]; 2]
-    requires { ⌜ at + 7 < 1024 ⌝ }
+fn load(corners: &[f32; CORNERS_LENGTH], at: usize) -> [[[f32; 2]; 2]; 2]
+    requires { ⌜ at + 7 < cornersLength ⌝ }
     ensures { λ r. ⌜ r ≡ loaded (now (corners .entry)) at ⌝ }
 {
     [
@@ -254,13 +256,13 @@ fn fold_z(c: [f32; 2], t: f32) -> f32
 // The folded corners of `size` frames.
 pub fn fold_all(
     size: usize,
-    xs: &[f32; 256],
-    ys: &[f32; 256],
-    zs: &[f32; 256],
-    corners: &[f32; 1024],
+    xs: &[f32; RUN_LENGTH],
+    ys: &[f32; RUN_LENGTH],
+    zs: &[f32; RUN_LENGTH],
+    corners: &[f32; CORNERS_LENGTH],
     mixes: &mut [f32],
 )
-    requires { ⌜ (size ≤ maxFrames) × (size ≤ length (now mixes)) ⌝ }
+    requires { ⌜ (size ≤ mostFrames) × (size ≤ length (now mixes)) ⌝ }
     ensures { λ _. ⌜ Filled (mixAt (now (xs .entry)) (now (ys .entry)) (now (zs .entry)) (now (corners .entry))) nan (now (mixes .exit)) size ⌝ }
 {
     let mut i = 0;

@@ -3,7 +3,8 @@ use mathlib.Core.Path.{_≡_, refl, sym, ap, _∙_, subst}
 use mathlib.Core.Logic.{_⊎_, inl, inr}
 use mathlib.Core.Bool.{true, false, cond}
 use Prim.Native.Nat.{ℕ, suc, _+_, _-_, _*_, _/_, _%_, _^_, _≤_, _<_, compare}
-use native.Mathlib.Nat.{mul-one, mul-assoc, mul-comm, mul-pos, mul-right-comm, mul-le-mul-right, mul-lt-mul-of-pos-right, le-trans, le-of-eq, lt-of-lt-of-le, lt-of-le-of-lt, le-of-lt, min-eq-left, not-le-of-lt, lt-of-not-le, le-div-iff-mul-le, div-lt-iff-lt-mul, mul-add-div-right, div-mul-le-self, eq-or-lt-of-le}
+use native.Mathlib.Nat.{mul-one, mul-assoc, mul-comm, mul-pos, mul-right-comm, mul-le-mul-right, mul-lt-mul-of-pos-right, le-trans, le-of-eq, lt-of-lt-of-le}
+use native.Mathlib.Nat.{lt-of-le-of-lt, le-of-lt, min-eq-left, not-le-of-lt, lt-of-not-le, le-div-iff-mul-le, div-lt-iff-lt-mul, mul-add-div-right, div-mul-le-self, eq-or-lt-of-le}
 use native.Mathlib.Omega.{arith}
 use lib.Dec.{lit<, lit≤}
 use lib.Pow.{pow-add, pow-pos, pow-mono, pow-lt}
@@ -24,8 +25,12 @@ use Rattle.words.specs.Inner.{Small}
 module _ (N D : ℕ) (p : 0 < D) (lo : 8388608 * D ≤ N) (hi : N < 16777216 * D) where
   digits : size (N * 2 ^ 149 / D) ≡ 173
   digits =
-      let a : 2 ^ 172 ≤ N * 2 ^ 149 / D = le-div-iff-mul-le p .1 (le-trans (le-of-eq (ap (λ (z : ℕ). z * D) (pow-add 2 23 149) ∙ mul-right-comm (2 ^ 23) (2 ^ 149) D)) (mul-le-mul-right (2 ^ 149) lo)) in
-      let b : N * 2 ^ 149 / D < 2 ^ 173 = div-lt-iff-lt-mul p .1 (lt-of-lt-of-le (mul-lt-mul-of-pos-right hi (pow-pos 149)) (le-of-eq (mul-right-comm (2 ^ 24) D (2 ^ 149) ∙ ap (λ (z : ℕ). z * D) (sym (pow-add 2 24 149))))) in
+      let a : 2 ^ 172 ≤ N * 2 ^ 149 / D =
+      le-div-iff-mul-le p .1
+      (le-trans (le-of-eq (ap (λ (z : ℕ). z * D) (pow-add 2 23 149) ∙ mul-right-comm (2 ^ 23) (2 ^ 149) D)) (mul-le-mul-right (2 ^ 149) lo)) in
+      let b : N * 2 ^ 149 / D < 2 ^ 173 =
+      div-lt-iff-lt-mul p .1
+      (lt-of-lt-of-le (mul-lt-mul-of-pos-right hi (pow-pos 149)) (le-of-eq (mul-right-comm (2 ^ 24) D (2 ^ 149) ∙ ap (λ (z : ℕ). z * D) (sym (pow-add 2 24 149))))) in
       let s : size (N * 2 ^ 149 / D) ≤ 173 = size-le (N * 2 ^ 149 / D) 173 b in
       let t : 172 < size (N * 2 ^ 149 / D) = lt-of-not-le (λ (g : size (N * 2 ^ 149 / D) ≤ 172). not-le-of-lt (lt-of-lt-of-le (size-lt (N * 2 ^ 149 / D)) (pow-mono g)) a) in
       omega arith
@@ -47,7 +52,9 @@ module _ (N D : ℕ) (p : 0 < D) (lo : 8388608 * D ≤ N) (hi : N < 16777216 * D
 
   rounded-value : HasValue (round binary32 false N D) false (closest N D) 1
   rounded-value =
-      let small : grid binary32 N D < overflow binary32 = subst (λ (y : ℕ). y < overflow binary32) (sym grid-is) (lt-of-le-of-lt (le-trans (mul-le-mul-right (2 ^ 149) most) (le-of-eq (sym (pow-add 2 24 149)))) (pow-lt {i = 173} {j = 277} (lit< tt))) in
+      let small : grid binary32 N D < overflow binary32 =
+      subst (λ (y : ℕ). y < overflow binary32) (sym grid-is)
+      (lt-of-le-of-lt (le-trans (mul-le-mul-right (2 ^ 149) most) (le-of-eq (sym (pow-add 2 24 149)))) (pow-lt {i = 173} {j = 277} (lit< tt))) in
       rescale (round binary32 false N D) false (closest N D * 2 ^ 149) (2 ^ 149) (closest N D) 1 (pow-pos 149) (sym (mul-one (closest N D * 2 ^ 149)))
       (subst (λ (y : ℕ). HasValue (round binary32 false N D) false y (2 ^ 149)) grid-is (round-val binary32 N D small))
 
@@ -81,7 +88,10 @@ module _ (y : Float) (a c : ℕ) (p : 0 < c) (v : HasValue y false a c) (small :
 
   sum-is : y ⊕ K ≡ round binary32 false N c
   unfolding N
-  sum-is = add-at y K a c 8388608 1 p (lit< tt) v (refl, refl) ∙ ap (λ (z : ℕ). round binary32 false z (c * 1)) (ap (λ (z : ℕ). z + 8388608 * c) (mul-one a)) ∙ ap (round binary32 false (a + 8388608 * c)) (mul-one c)
+  sum-is =
+      add-at y K a c 8388608 1 p (lit< tt) v (refl, refl)
+      ∙ ap (λ (z : ℕ). round binary32 false z (c * 1)) (ap (λ (z : ℕ). z + 8388608 * c) (mul-one a))
+      ∙ ap (round binary32 false (a + 8388608 * c)) (mul-one c)
 
   -- the whole number that the sum is rounded to: the whole part or one more
   H : ℕ

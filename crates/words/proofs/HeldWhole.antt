@@ -3,7 +3,8 @@ use mathlib.Core.Path.{_≡_, refl, sym, ap, _∙_, subst}
 use mathlib.Core.Logic.{_⊎_, inl, inr}
 use mathlib.Core.Bool.{Bool, true, false, cond, _&&_, _||_, true≢false, false≢true}
 use Prim.Native.Nat.{ℕ, zero, suc, _+_, _-_, _*_, _/_, _≤_, _<_, min, zero-le}
-use native.Mathlib.Nat.{min-eq-left, min-eq-right, zero-min, zero-div, mul-one, mul-pos, div-one, le-div-iff-mul-le, div-lt-iff-lt-mul, le-min, min-le-left, le-trans, lt-of-lt-of-le, lt-of-le-of-lt, lt-of-not-le, not-le-of-lt, eq-or-lt-of-le, le-of-lt, le-of-eq, mul-le-mul-right, mul-right-comm, le-of-mul-le-mul-right}
+use native.Mathlib.Nat.{min-eq-left, min-eq-right, zero-min, zero-div, mul-one, mul-pos, div-one, le-div-iff-mul-le, div-lt-iff-lt-mul, le-min, min-le-left}
+use native.Mathlib.Nat.{le-trans, lt-of-lt-of-le, lt-of-le-of-lt, lt-of-not-le, not-le-of-lt, eq-or-lt-of-le, le-of-lt, le-of-eq, mul-le-mul-right, mul-right-comm, le-of-mul-le-mul-right}
 use native.Mathlib.Numerals.{add-one}
 use native.Mathlib.Omega.{arith}
 use borrow.Author.Tests.{ltb-false, leb-true, leb-false, lt-ltb, le-ltb, eq-eqb, ne-eqb}
@@ -95,7 +96,9 @@ inside x t top m q a b = go x a (ap (lt x) (sym q) ∙ b)
         let v : n * up e * 1 < top * down e = values-below (fin false n e) (ofCount top) (n * up e) (down e) top 1 (down-pos e) (lit< tt) (own n e) (count-value top (le-trans m (lit≤ tt))) l in
         let k : top * down e ≤ 8388607 * down e = mul-le-mul-right (down e) m in
         let w : n * up e / down e < top = div-lt-iff-lt-mul (down-pos e) .1 (omega arith) in
-        let u : toUnsigned 64 (fin false n e) ≤ top = le-trans (le-of-eq (whole-at 64 (fin false n e) (n * up e) (down e) (down-pos e) (own n e))) (le-trans (min-le-left (n * up e / down e) 18446744073709551615) (le-of-lt w)) in
+        let u : toUnsigned 64 (fin false n e) ≤ top =
+        le-trans (le-of-eq (whole-at 64 (fin false n e) (n * up e) (down e) (down-pos e) (own n e)))
+        (le-trans (min-le-left (n * up e / down e) 18446744073709551615) (le-of-lt w)) in
         (sym (min-eq-left u), record { digits = n; exponent = e; is = refl; below = omega (arith, down-pos e) })
 
 -- ---- x is not below the top
@@ -160,7 +163,9 @@ held-test t x top m q = go t (subst (λ (f : Float). HasValue f false (top + 1) 
         let a : 0 < k * up g * down e = mul-pos b (down-pos e) in
         rw (ne-eqb (k * up g * down e) 0 (λ q. absurd (omega arith))) (neither (eqb (k * up g * down e) (n * up e * down g)) ∙ sym (le-ltb top 0 zero-le))
     go (fin false k g) v (fin false n e) =
-        let q : k * up g * down e ≡ suc top * down e * down g = ap (λ (z : ℕ). z * down e) (sym (mul-one (k * up g)) ∙ v .1 ∙ ap (λ (z : ℕ). z * down g) (add-one top)) ∙ mul-right-comm (suc top) (down g) (down e) in
+        let q : k * up g * down e ≡ suc top * down e * down g =
+        ap (λ (z : ℕ). z * down e) (sym (mul-one (k * up g)) ∙ v .1 ∙ ap (λ (z : ℕ). z * down g) (add-one top))
+        ∙ mul-right-comm (suc top) (down g) (down e) in
         order (k * up g * down e) (n * up e * down g)
         ∙ quotients (k * up g * down e) (n * up e * down g) n (up e) (down e) top (down-pos e)
         (λ h. le-of-mul-le-mul-right (le-trans (le-of-eq (sym q)) (leb-true (k * up g * down e) (n * up e * down g) h)) (down-pos g))

@@ -153,7 +153,7 @@ fn words(entry: &Entry) -> Vec<u32> {
 }
 
 fn main() {
-    let folder = std::env::args().nth(1).expect("answers FOLDER");
+    let folder = std::env::args().nth(1).expect("the folder to write to");
     original::silence_panics();
     let mut random = Random::new(1);
     let mut list: Vec<(Entry, String)> = Vec::new();
@@ -187,7 +187,7 @@ fn main() {
     }
     let folder = Path::new(&folder);
     let bytes: Vec<u8> = scores.iter().flat_map(|w| w.to_le_bytes()).collect();
-    fs::write(folder.join("stdin"), &bytes).expect("FOLDER/stdin");
-    fs::write(folder.join("stdout"), &stdout).expect("stdout");
+    fs::write(folder.join("stdin"), &bytes).expect("the scores are written to stdin");
+    fs::write(folder.join("stdout"), &stdout).expect("the answers are written to stdout");
     println!("{} scores, {} bytes of scores, {} lines to print", list.len(), bytes.len(), stdout.lines().count());
 }

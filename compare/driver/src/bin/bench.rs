@@ -16,7 +16,7 @@ use driver::cases;
 use driver::original;
 use driver::random::Random;
 use model::score::NAMES;
-use wohketa_retake::{Instrument, Row, Setup, Take, edit, read_score, render};
+use wohketa_retake::{BANK, Instrument, MAP, Row, Setup, Take, edit, read_score, render};
 
 const ROWS: usize = 4_096;
 const FRAMES: u32 = 24;
@@ -30,33 +30,32 @@ const NEVER_KEPT: u32 = 0x7fc0_0001;
 /// One instrument with its bank, map and score, and samples for the original to write.
 struct Bench<'a> {
     number: u32,
-    bank: &'a [i16],
-    map: &'a [u8],
+    bank: &'a [i16; BANK],
+    map: Option<&'a [u8; MAP]>,
     rows: &'a [u32],
     out: Vec<f32>,
     aux: Vec<f32>,
 }
 
 impl<'a> Bench<'a> {
-    fn new(number: u32, bank: &'a [i16], map: &'a [u8], rows: &'a [u32]) -> Self {
+    fn new(number: u32, bank: &'a [i16; BANK], map: &'a [u8; MAP], rows: &'a [u32]) -> Self {
         let samples = vec![0.0; ROWS * FRAMES as usize];
-        let map = if number == 2 { map } else { &[] };
-        Bench { number, bank, map, rows, out: samples.clone(), aux: samples }
+        Bench { number, bank, map: (number == 2).then_some(map), rows, out: samples.clone(), aux: samples }
     }
 
     fn setup(&self) -> Setup<'a> {
-        let instrument = match self.number {
-            0 => Instrument::Wavetable,
-            1 => Instrument::Terrain,
-            _ => Instrument::TerrainWithMap(self.map),
+        let instrument = match (self.number, self.map) {
+            (0, _) => Instrument::Wavetable,
+            (_, None) => Instrument::Terrain,
+            (_, Some(map)) => Instrument::TerrainWithMap(map),
         };
         Setup { instrument, rate: RATE, frames: FRAMES, bank: self.bank }
     }
 
     /// The original's whole rendering.
     fn original(&mut self) -> Duration {
-        let setup =
-            model::Setup { instrument: self.number, rate: RATE, frames: FRAMES, bank: self.bank, map: self.map };
+        let map = self.map.map_or(&[][..], |map| map);
+        let setup = model::Setup { instrument: self.number, rate: RATE, frames: FRAMES, bank: self.bank, map };
         timed(|| original::play(setup, self.rows, &mut self.out, &mut self.aux))
     }
 
@@ -92,8 +91,8 @@ impl<'a> Bench<'a> {
             take.kept.fill(NEVER_KEPT);
             let row = Row { note: 60.0, timbre: [0.25, 0.75][round % 2], morph: 0.5, harmonics: 0.5, restart: false };
             let mut rendered = 0;
-            let time = timed(|| rendered = edit(&setup, &mut rows, 0, row, &mut take).map_or(0, |done| done.rows));
-            assert_eq!(rendered, stop as u64);
+            let time = timed(|| rendered = edit(&setup, &mut rows, 0, row, &mut take).map_or(0, |report| report.rows));
+            assert_eq!(rendered, stop);
             time
         });
     }
@@ -130,8 +129,8 @@ fn main() {
     let published = original::published_bank();
     let mut random = Random::new(7);
     let rows = cases::usual_rows(&mut random, ROWS, 64);
-    let noise: Vec<i16> = (0..model::BANK).map(|_| random.word() as i16).collect();
-    let map: Vec<u8> = (0..model::MAP).map(|_| random.word() as u8).collect();
+    let noise: [i16; BANK] = std::array::from_fn(|_| random.word() as i16);
+    let map: [u8; MAP] = std::array::from_fn(|_| random.word() as u8);
     println!("measurement,library_us,original_us,ratio,first_quartile,third_quartile");
     for number in 0..3 {
         Bench::new(number, &noise, &map, &rows).renders("random");

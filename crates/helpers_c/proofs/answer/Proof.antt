@@ -1,9 +1,8 @@
 -- `helpers_c::answer` meets its contract.
 use mathlib.Core.Path.{sym, ap, _∙_, refl}
 use mathlib.Core.List.{List}
-use lib.Ieee.{Float, binary32, toBits, ofBits}
+use lib.Ieee.{Float, binary32, toBits}
 use borrow.Author.Needs.{needs}
-use Rattle.words.specs.Binary32.{decimal}
 use Rattle.oscillator.specs.Sine.{sineOf}
 use Rattle.helpers_c.specs.Helpers.{answerAt}
 use Rattle.helpers_c.proofs.Cases.{answer-else}
@@ -64,6 +63,9 @@ to-word-requires-6 c κs = search needs
 cast-result-6 : tie.Need-cast-result-6
 cast-result-6 c = search needs
 
+a0-requires : tie.Need-a0-requires
+a0-requires c κs = search needs
+
 note-to-frequency-requires : tie.Need-note-to-frequency-requires
 note-to-frequency-requires c κs = search needs
 
@@ -104,12 +106,11 @@ returns-7 c =
     rw (c .before .before .match .keys7) (c .to-word6 .ensures ∙ ap (toBits binary32) (c .before .sine .ensures ∙ ap (λ (t : List Float). sineOf t (s .args .x)) (s .pre .0)))
 
 returns-8 : tie.Need-returns-8
-unfolding ofBits decimal
 returns-8 c =
-    let s = c .before .before .before in
-    let r = c .before .before .match .rest in
+    let s = c .before .before .before .before in
+    let r = c .before .before .before .match .rest in
     c .to-word7 .ensures
-    ∙ ap (toBits binary32) (c .before .note-to-frequency .ensures ∙ rw (s .pre .1 .0, s .pre .1 .1) refl)
+    ∙ ap (toBits binary32) (c .before .note-to-frequency .ensures ∙ rw (c .before .before .a0 .ensures, s .pre .1 .0, s .pre .1 .1) refl)
     ∙ sym (answer-else _ (s .args .x) (r .0 .0 .0 .0 .0 .0 .1) (r .0 .0 .0 .0 .0 .1) (r .0 .0 .0 .0 .1) (r .0 .0 .0 .1) (r .0 .0 .1) (r .0 .1) (r .1))
 
 pub answer-spec : {M : Type 1} → statement M
@@ -134,6 +135,7 @@ answer-spec =
     sine-requires
     to-word-requires-6
     cast-result-6
+    a0-requires
     note-to-frequency-requires
     to-word-requires-7
     cast-result-7

@@ -54,7 +54,8 @@ loop-less c = search needs
 loop-again : tie.Need-loop-again Inv-loop μ-loop
 loop-again c =
     let l = c .before .before .before .before .before .before .before .loop in
-    (goes-on _ _ _ (l .answers) (l .w) (l .i) _ _ (omega arith) (c .before .answer .ensures ∙ ap (answerAt _) (c .before .before .before .before .before .of-word .ensures)) (c .wrapping-add-u32 .ensures) (l .inv .0), l .inv .1)
+    let answered = c .before .answer .ensures ∙ ap (answerAt _) (c .before .before .before .before .before .of-word .ensures) in
+    (goes-on _ _ _ (l .answers) (l .w) (l .i) _ _ (omega arith) answered (c .wrapping-add-u32 .ensures) (l .inv .0), l .inv .1)
 
 same-length : tie.Need-same-length Inv-loop μ-loop
 same-length c = search needs

@@ -1,4 +1,4 @@
--- `retake_c::retake_edit` meets its contract.
+-- `retake_c::retake_edit` meets its contract: the edit's outcome, its answer written out.
 use borrow.Author.Needs.{needs}
 use Rattle.retake_c.proofs.Returning.{call-returns}
 use Rattle.retake_c.proofs.retake_edit.Statement.{statement}
@@ -23,7 +23,9 @@ same-length-4 : tie.Need-same-length-4
 same-length-4 c = search needs
 
 returns : tie.Need-returns
-returns c = call-returns _ _ _ _ _ _ _ (c .values-of .ensures) (c .before .before .before .before .before .before .before .before .before .edit .ensures)
+returns c =
+    let edit = c .before .before .before .before .before .before .before .before .before .edit in
+    call-returns _ _ _ _ _ _ _ (c .values-of .ensures) (edit .ensures)
 
 pub retake-edit-spec : {M : Type 1} → statement M
 retake-edit-spec =

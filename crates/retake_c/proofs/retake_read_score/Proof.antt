@@ -1,4 +1,4 @@
--- `retake_c::retake_read_score` meets its contract.
+-- `retake_c::retake_read_score` meets its contract: reading's outcome, its answer written out.
 use borrow.Author.Needs.{needs}
 use Rattle.retake_c.proofs.Returning.{read-returns}
 use Rattle.retake_c.proofs.retake_read_score.Statement.{statement}
@@ -14,7 +14,9 @@ same-length : tie.Need-same-length
 same-length c = search needs
 
 returns : tie.Need-returns
-returns c = read-returns _ _ _ (c .before .before .before .read .result) _ _ (c .read-values .ensures) (c .before .before .before .read .ensures)
+returns c =
+    let read = c .before .before .before .read in
+    read-returns _ _ _ (read .result) _ _ (c .read-values .ensures) (read .ensures)
 
 pub retake-read-score-spec : {M : Type 1} → statement M
 retake-read-score-spec =

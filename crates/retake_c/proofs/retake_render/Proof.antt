@@ -1,4 +1,4 @@
--- `retake_c::retake_render` meets its contract.
+-- `retake_c::retake_render` meets its contract: rendering's outcome, its answer written out.
 use borrow.Author.Needs.{needs}
 use Rattle.retake_c.proofs.Returning.{call-returns}
 use Rattle.retake_c.proofs.retake_render.Statement.{statement}
@@ -20,7 +20,9 @@ same-length-3 : tie.Need-same-length-3
 same-length-3 c = search needs
 
 returns : tie.Need-returns
-returns c = call-returns _ _ _ _ _ _ _ (c .values-of .ensures) (c .before .before .before .before .before .before .before .render .ensures)
+returns c =
+    let render = c .before .before .before .before .before .before .before .render in
+    call-returns _ _ _ _ _ _ _ (c .values-of .ensures) (render .ensures)
 
 pub retake-render-spec : {M : Type 1} → statement M
 retake-render-spec =

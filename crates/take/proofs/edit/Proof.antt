@@ -1,6 +1,9 @@
--- `edit` answers and leaves what `editOf` says, by one law for each answer (`Calls`).
+-- `edit` is `editOf`, by its tests and its run.
+use Rattle.take.proofs.Calls.{edit-lent, edit-score, edit-room, edit-holding, edit-same, answers-edit-refused, edit-accepted, answers-edited}
+use Rattle.take.proofs.Refusals.{usable}
+use native.Mathlib.Omega.{arith}
+use mathlib.Core.Path.{sym, _∙_}
 use borrow.Author.Needs.{needs}
-use Rattle.take.proofs.Calls.{edit-refused, edit-right, edit-below, edit-room, edit-fit, edit-unchanged, edit-done}
 use Rattle.take.proofs.edit.Statement.{statement}
 use Rattle.take.proofs.edit.Tie as tie
 
@@ -20,10 +23,16 @@ same-length-4 : tie.Need-same-length-4
 same-length-4 c = search needs
 
 returns : tie.Need-returns
-returns c = edit-refused _ _ _ _ _ _ (c .before .before .edit-refusal .ensures) (c .if1 .taken)
+returns c =
+    answers-edit-refused _ _ _ _ _ _ (c .before .before .edit-refusal .ensures) (c .if1 .taken)
 
 same-row-requires : tie.Need-same-row-requires
-same-row-requires c κs = edit-room _ _ _ _ _ _ (c .before .before .before .edit-refusal .ensures) (c .before .if1 .left)
+same-row-requires c κs =
+    let test = c .before in
+    edit-room _ _ _ _ _ (edit-accepted _ _ _ _ _ _ (test .before .before .edit-refusal .ensures) (test .if1 .left))
+
+nothing-requires : tie.Need-nothing-requires
+nothing-requires c κs = search needs
 
 same-length-5 : tie.Need-same-length-5
 same-length-5 c = search needs
@@ -39,18 +48,32 @@ same-length-8 c = search needs
 
 returns-2 : tie.Need-returns-2
 returns-2 c =
-    edit-unchanged _ _ _ _ _ _ (c .before .before .before .before .before .edit-refusal .ensures) (c .before .before .before .if1 .left) _ (c .before .same-row .ensures) (c .if2 .taken)
+    let equal = c .before in
+    let test = equal .before .before .before in
+    let z = edit-accepted _ _ _ _ _ _ (test .before .before .edit-refusal .ensures) (test .if1 .left) in
+    rw (c .nothing .ensures) (sym (edit-same _ _ _ _ _ z (sym (equal .before .same-row .ensures) ∙ equal .if2 .taken)))
 
 put-row-requires : tie.Need-put-row-requires
 put-row-requires c κs =
-    edit-room _ _ _ _ _ _ (c .before .before .before .before .before .before .edit-refusal .ensures) (c .before .before .before .before .if1 .left)
+    let test = c .before .before .before .before in
+    edit-room _ _ _ _ _ (edit-accepted _ _ _ _ _ _ (test .before .before .edit-refusal .ensures) (test .if1 .left))
 
-run-rows-requires : tie.Need-run-rows-requires
-run-rows-requires c κs =
-    let e = c .before .before .before .before .before .before .before .before .before .before .before .before .before .edit-refusal .ensures in
-    let z = c .before .before .before .before .before .before .before .before .before .before .before .if1 .left in
-    let fit = edit-fit _ _ _ _ (c .before .before .before .before .before .before .before .before .before .before .before .before .before .before .before .before .before .before .before .before .before .before .before .args .row) _ e z (search (needs, c .before .before .before .before .before .before .before .before .before .before .before .before .before .before .before .before .before .before .before .before .before .before .before .good .1 .1 .1 .1 .1 .1 .1 .0)) in
-    (edit-right _ _ _ _ _ _ e z .lent, (rw (c .before .before .before .before .before .before .put-row .ensures) fit, edit-below _ _ _ _ _ _ e z))
+add-next : tie.Need-add-next
+add-next c =
+    let test = c .before .before .before .before .before .before .before in
+    let z = edit-accepted _ _ _ _ _ _ (test .before .before .edit-refusal .ensures) (test .if1 .left) in
+    omega (arith, edit-score _ _ _ _ _ z .0, usable _ _ _ (edit-lent _ _ _ _ _ z) .fit .rows-most)
+
+run-requires : tie.Need-run-requires
+run-requires c κs =
+    let put = c .before .before .before .before .before .before in
+    let test = put .before .before .before .before .before in
+    let entry = test .before .before .before .before .before .before .before .before .before .before .before .before in
+    let z = edit-accepted _ _ _ _ _ _ (test .before .before .edit-refusal .ensures) (test .if1 .left) in
+    let row = entry .args .row in
+    let below = edit-score _ _ _ _ _ z .0 in
+    let lent = usable _ _ _ (edit-lent _ _ _ _ _ z) in
+    (lent .tables, (rw (put .put-row .ensures) (edit-holding _ _ _ _ row z (search (needs, entry .good .1 .1 .1 .1 .1 .0))), (omega arith, omega (arith, below))))
 
 same-length-9 : tie.Need-same-length-9
 same-length-9 c = search needs
@@ -66,9 +89,12 @@ same-length-12 c = search needs
 
 returns-3 : tie.Need-returns-3
 returns-3 c =
-    rw (c .before .before .before .before .before .before .before .before .before .before .before .before .before .put-row .ensures)
-    (edit-done _ _ _ _ _ _ (c .before .before .before .before .before .before .before .before .before .before .before .before .before .before .before .before .before .before .before .before .edit-refusal .ensures) (c .before .before .before .before .before .before .before .before .before .before .before .before .before .before .before .before .before .before .if1 .left) _ (c .before .before .before .before .before .before .before .before .before .before .before .before .before .before .before .before .same-row .ensures) (c .before .before .before .before .before .before .before .before .before .before .before .before .before .before .before .if2 .left) _ _ _
-    (rw (c .before .before .before .before .before .before .before .before .before .before .before .before .before .put-row .ensures) at (c .before .before .before .before .before .before .run-rows .ensures)))
+    let run = c .before .before .before .before .before .before in
+    let put = run .before .before .before .before .before .before .before in
+    let equal = put .before .before in
+    let test = equal .before .before .before in
+    let w = sym (equal .before .same-row .ensures) ∙ equal .if2 .left in
+    answers-edited _ _ _ _ _ _ (test .before .before .edit-refusal .ensures) (test .if1 .left) w _ _ _ (put .put-row .ensures) (run .run .ensures)
 
 pub edit-spec : {M : Type 1} → statement M
 edit-spec =
@@ -81,13 +107,15 @@ edit-spec =
     same-length-4
     returns
     same-row-requires
+    nothing-requires
     same-length-5
     same-length-6
     same-length-7
     same-length-8
     returns-2
     put-row-requires
-    run-rows-requires
+    add-next
+    run-requires
     same-length-9
     same-length-10
     same-length-11

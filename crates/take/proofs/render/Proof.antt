@@ -1,6 +1,9 @@
--- `render` answers and leaves what `renderOf` says, by one law for each answer (`Calls`).
+-- `render` is `renderOf`, by its test and its run.
+use Rattle.take.proofs.Calls.{render-lent, answers-render-refused, render-accepted, answers-rendered}
+use Rattle.take.proofs.Refusals.{usable, holding}
+use native.Mathlib.Nat.{le-refl}
+use mathlib.Core.Path.{refl}
 use borrow.Author.Needs.{needs}
-use Rattle.take.proofs.Calls.{render-refused, render-right, render-done}
 use Rattle.take.proofs.render.Statement.{statement}
 use Rattle.take.proofs.render.Tie as tie
 
@@ -17,12 +20,15 @@ same-length-3 : tie.Need-same-length-3
 same-length-3 c = search needs
 
 returns : tie.Need-returns
-returns c = render-refused _ _ _ _ (c .before .before .render-refusal .ensures) (c .if1 .taken)
+returns c =
+    answers-render-refused _ _ _ _ (c .before .before .render-refusal .ensures) (c .if1 .taken)
 
-run-rows-requires : tie.Need-run-rows-requires
-run-rows-requires c κs =
-    let r = render-right _ _ _ _ (c .before .before .before .before .before .render-refusal .ensures) (c .before .before .before .if1 .left) in
-    (r .lent, (r .fit, r .some))
+run-requires : tie.Need-run-requires
+run-requires c κs =
+    let test = c .before .before .before in
+    let z = render-accepted _ _ _ _ (test .before .before .render-refusal .ensures) (test .if1 .left) in
+    let u = usable _ _ _ (render-lent _ _ _ z) in
+    (u .tables, (holding _ _ _ _ u refl, (u .fit .rows-some, le-refl _)))
 
 same-length-4 : tie.Need-same-length-4
 same-length-4 c = search needs
@@ -35,7 +41,8 @@ same-length-6 c = search needs
 
 returns-2 : tie.Need-returns-2
 returns-2 c =
-    render-done _ _ _ _ (c .before .before .before .before .before .before .before .before .before .before .before .before .render-refusal .ensures) (c .before .before .before .before .before .before .before .before .before .before .if1 .left) _ _ _ (c .before .before .before .before .before .before .run-rows .ensures)
+    let test = c .before .before .before .before .before .before .before .before .before .before in
+    answers-rendered _ _ _ _ (test .before .before .render-refusal .ensures) (test .if1 .left) _ _ (c .before .before .before .before .before .before .run .ensures)
 
 pub render-spec : {M : Type 1} → statement M
 render-spec =
@@ -46,7 +53,7 @@ render-spec =
     same-length-2
     same-length-3
     returns
-    run-rows-requires
+    run-requires
     same-length-4
     same-length-5
     same-length-6

@@ -1,6 +1,6 @@
--- `voice::render` meets its contract.
+-- `voice::render` meets its contract: the voice's own block is the block of the state that holds it.
 use borrow.Author.Needs.{needs}
-use Rattle.voice.proofs.Blocks.{wavetable-made, terrain-made}
+use Rattle.voice.proofs.Blocks.{wavetable-renders, terrain-renders}
 use Rattle.voice.proofs.render.Statement.{statement}
 use Rattle.voice.proofs.render.Tie as tie
 
@@ -24,8 +24,10 @@ same-length-2 c = search needs
 
 returns : tie.Need-returns
 returns c =
-    let s = c .before .before .before .before .before .before .before .before .before .before .before .before .before .before .before .before .before .before .before .before in
-    wavetable-made _ _ _ _ _ _ _ _ (s .pre .1 .0) _ _ _ _ _ (c .before .before .before .before .before .before .before .before .before .before .before .before .before .before .before .state .given .1) (c .before .before .before .before .before .render .ensures)
+    let at-render = c .before .before .before .before .before .before in
+    let at-state = at-render .before .before .before .before .before .before .before .before .before .before in
+    let entry = at-state .before .before .before .before .before in
+    wavetable-renders _ _ _ _ _ (entry .pre .1 .0) _ _ _ _ _ _ _ _ (at-state .state .given .1) (at-render .render .ensures)
 
 same-length-3 : tie.Need-same-length-3
 same-length-3 c = search needs
@@ -35,8 +37,10 @@ same-length-4 c = search needs
 
 returns-2 : tie.Need-returns-2
 returns-2 c =
-    let s = c .before .before .before .before .before .before .before .before .before .before .before .before .before .before .before .before .before .before .before .before in
-    terrain-made _ _ _ _ _ _ _ _ (s .pre .1 .0) _ _ _ _ _ (c .before .before .before .before .before .before .before .before .before .before .before .before .before .before .before .state2 .given .1) (c .before .before .before .before .before .render2 .ensures)
+    let at-render = c .before .before .before .before .before .before in
+    let at-state = at-render .before .before .before .before .before .before .before .before .before .before in
+    let entry = at-state .before .before .before .before .before in
+    terrain-renders _ _ _ _ _ (entry .pre .1 .0) _ _ _ _ _ _ _ _ (at-state .state2 .given .1) (at-render .render2 .ensures)
 
 pub render-spec : {M : Type 1} → statement M
 render-spec =

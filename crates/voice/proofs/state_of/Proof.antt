@@ -1,23 +1,30 @@
--- `voice::state_of` meets its contract.
-use borrow.Author.Tests.{eq-eqb, ne-eqb}
+-- `voice::state_of` meets its contract, voice by voice.
 use borrow.Author.Needs.{needs}
 use Rattle.voice.specs.Voice.{stateOf}
 use Rattle.voice.proofs.state_of.Statement.{statement}
 use Rattle.voice.proofs.state_of.Tie as tie
 
+enum-told : tie.Need-enum-told
+enum-told c = search needs
+
 wavetable-of-requires : tie.Need-wavetable-of-requires
 wavetable-of-requires c κs = search needs
+
+enum-told-2 : tie.Need-enum-told-2
+enum-told-2 c = search needs
 
 terrain-of-requires : tie.Need-terrain-of-requires
 terrain-of-requires c κs = search needs
 
 returns : tie.Need-returns
 unfolding stateOf
-returns c = simp (eq-eqb _ _ (c .before .if1 .taken), c .wavetable-of .ensures)
+returns c = rw (c .before .enum-told .given .1, c .wavetable-of .ensures)
 
 returns-2 : tie.Need-returns-2
 unfolding stateOf
-returns-2 c = simp (ne-eqb _ _ (c .before .if1 .left), c .terrain-of .ensures)
+returns-2 c = rw (c .before .enum-told2 .given .1, c .terrain-of .ensures)
 
 pub state-of-spec : {M : Type 1} → statement M
-state-of-spec = tie.close (tie.spec wavetable-of-requires terrain-of-requires returns returns-2)
+state-of-spec =
+    tie.close
+    (tie.spec enum-told wavetable-of-requires enum-told-2 terrain-of-requires returns returns-2)

@@ -42,7 +42,20 @@ of-word-requires-6 c κs = search needs
 
 returns : tie.Need-returns
 unfolding terrainOf
-returns c = rw (c .of-word6 .ensures, c .before .before .of-word5 .ensures, c .before .before .before .before .of-word4 .ensures, c .before .before .before .before .before .before .of-word3 .ensures, c .before .before .before .before .before .before .before .before .of-word2 .ensures, c .before .before .before .before .before .before .before .before .before .before .of-word .ensures)
+returns c =
+    let at-of-word5 = c .before .before in
+    let at-of-word4 = at-of-word5 .before .before in
+    let at-of-word3 = at-of-word4 .before .before in
+    let at-of-word2 = at-of-word3 .before .before in
+    let at-of-word = at-of-word2 .before .before in
+    rw (
+      c .of-word6 .ensures,
+      at-of-word5 .of-word5 .ensures,
+      at-of-word4 .of-word4 .ensures,
+      at-of-word3 .of-word3 .ensures,
+      at-of-word2 .of-word2 .ensures,
+      at-of-word .of-word .ensures,
+    )
 
 pub terrain-of-spec : {M : Type 1} → statement M
 terrain-of-spec =

@@ -24,7 +24,20 @@ to-word-requires-6 c κs = search needs
 
 returns : tie.Need-returns
 unfolding keptWords
-returns c = rw (c .to-word6 .ensures, c .before .to-word5 .ensures, c .before .before .to-word4 .ensures, c .before .before .before .to-word3 .ensures, c .before .before .before .before .to-word2 .ensures, c .before .before .before .before .before .to-word .ensures)
+returns c =
+    let at-to-word5 = c .before in
+    let at-to-word4 = at-to-word5 .before in
+    let at-to-word3 = at-to-word4 .before in
+    let at-to-word2 = at-to-word3 .before in
+    let at-to-word = at-to-word2 .before in
+    rw (
+      c .to-word6 .ensures,
+      at-to-word5 .to-word5 .ensures,
+      at-to-word4 .to-word4 .ensures,
+      at-to-word3 .to-word3 .ensures,
+      at-to-word2 .to-word2 .ensures,
+      at-to-word .to-word .ensures,
+    )
 
 pub terrain-words-spec : {M : Type 1} → statement M
 terrain-words-spec =

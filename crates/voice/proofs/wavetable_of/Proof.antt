@@ -84,7 +84,34 @@ of-word-requires-13 c κs = search needs
 
 returns : tie.Need-returns
 unfolding wavetableOf
-returns c = rw (c .of-word13 .ensures, c .before .before .of-word12 .ensures, c .before .before .before .before .of-word11 .ensures, c .before .before .before .before .before .before .of-word10 .ensures, c .before .before .before .before .before .before .before .before .of-word9 .ensures, c .before .before .before .before .before .before .before .before .before .before .of-word8 .ensures, c .before .before .before .before .before .before .before .before .before .before .before .before .of-word7 .ensures, c .before .before .before .before .before .before .before .before .before .before .before .before .before .before .of-word6 .ensures, c .before .before .before .before .before .before .before .before .before .before .before .before .before .before .before .before .of-word5 .ensures, c .before .before .before .before .before .before .before .before .before .before .before .before .before .before .before .before .before .before .of-word4 .ensures, c .before .before .before .before .before .before .before .before .before .before .before .before .before .before .before .before .before .before .before .before .of-word3 .ensures, c .before .before .before .before .before .before .before .before .before .before .before .before .before .before .before .before .before .before .before .before .before .before .of-word2 .ensures, c .before .before .before .before .before .before .before .before .before .before .before .before .before .before .before .before .before .before .before .before .before .before .before .before .of-word .ensures)
+returns c =
+    let at-of-word12 = c .before .before in
+    let at-of-word11 = at-of-word12 .before .before in
+    let at-of-word10 = at-of-word11 .before .before in
+    let at-of-word9 = at-of-word10 .before .before in
+    let at-of-word8 = at-of-word9 .before .before in
+    let at-of-word7 = at-of-word8 .before .before in
+    let at-of-word6 = at-of-word7 .before .before in
+    let at-of-word5 = at-of-word6 .before .before in
+    let at-of-word4 = at-of-word5 .before .before in
+    let at-of-word3 = at-of-word4 .before .before in
+    let at-of-word2 = at-of-word3 .before .before in
+    let at-of-word = at-of-word2 .before .before in
+    rw (
+      c .of-word13 .ensures,
+      at-of-word12 .of-word12 .ensures,
+      at-of-word11 .of-word11 .ensures,
+      at-of-word10 .of-word10 .ensures,
+      at-of-word9 .of-word9 .ensures,
+      at-of-word8 .of-word8 .ensures,
+      at-of-word7 .of-word7 .ensures,
+      at-of-word6 .of-word6 .ensures,
+      at-of-word5 .of-word5 .ensures,
+      at-of-word4 .of-word4 .ensures,
+      at-of-word3 .of-word3 .ensures,
+      at-of-word2 .of-word2 .ensures,
+      at-of-word .of-word .ensures,
+    )
 
 pub wavetable-of-spec : {M : Type 1} → statement M
 wavetable-of-spec =

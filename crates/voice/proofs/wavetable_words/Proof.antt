@@ -45,7 +45,34 @@ to-word-requires-13 c κs = search needs
 
 returns : tie.Need-returns
 unfolding keptWords
-returns c = rw (c .to-word13 .ensures, c .before .to-word12 .ensures, c .before .before .to-word11 .ensures, c .before .before .before .to-word10 .ensures, c .before .before .before .before .to-word9 .ensures, c .before .before .before .before .before .to-word8 .ensures, c .before .before .before .before .before .before .to-word7 .ensures, c .before .before .before .before .before .before .before .to-word6 .ensures, c .before .before .before .before .before .before .before .before .to-word5 .ensures, c .before .before .before .before .before .before .before .before .before .to-word4 .ensures, c .before .before .before .before .before .before .before .before .before .before .to-word3 .ensures, c .before .before .before .before .before .before .before .before .before .before .before .to-word2 .ensures, c .before .before .before .before .before .before .before .before .before .before .before .before .to-word .ensures)
+returns c =
+    let at-to-word12 = c .before in
+    let at-to-word11 = at-to-word12 .before in
+    let at-to-word10 = at-to-word11 .before in
+    let at-to-word9 = at-to-word10 .before in
+    let at-to-word8 = at-to-word9 .before in
+    let at-to-word7 = at-to-word8 .before in
+    let at-to-word6 = at-to-word7 .before in
+    let at-to-word5 = at-to-word6 .before in
+    let at-to-word4 = at-to-word5 .before in
+    let at-to-word3 = at-to-word4 .before in
+    let at-to-word2 = at-to-word3 .before in
+    let at-to-word = at-to-word2 .before in
+    rw (
+      c .to-word13 .ensures,
+      at-to-word12 .to-word12 .ensures,
+      at-to-word11 .to-word11 .ensures,
+      at-to-word10 .to-word10 .ensures,
+      at-to-word9 .to-word9 .ensures,
+      at-to-word8 .to-word8 .ensures,
+      at-to-word7 .to-word7 .ensures,
+      at-to-word6 .to-word6 .ensures,
+      at-to-word5 .to-word5 .ensures,
+      at-to-word4 .to-word4 .ensures,
+      at-to-word3 .to-word3 .ensures,
+      at-to-word2 .to-word2 .ensures,
+      at-to-word .to-word .ensures,
+    )
 
 pub wavetable-words-spec : {M : Type 1} → statement M
 wavetable-words-spec =

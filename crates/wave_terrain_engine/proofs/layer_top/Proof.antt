@@ -1,3 +1,4 @@
+-- The top of the layer number, by whether there is a map.
 use borrow.Author.Tests.{eq-eqb, ne-eqb}
 use Rattle.wave_terrain_engine.proofs.layer_top.Statement.{statement}
 use Rattle.wave_terrain_engine.proofs.layer_top.Tie as tie

@@ -1,3 +1,4 @@
+-- The count of terrains, by whether there is a map.
 use borrow.Author.Tests.{eq-eqb, ne-eqb}
 use Rattle.wave_terrain_engine.proofs.num_terrains.Statement.{statement}
 use Rattle.wave_terrain_engine.proofs.num_terrains.Tie as tie

@@ -1,3 +1,4 @@
+-- The radius of the path, by what `max` ensures.
 use lib.Ieee.{ofBits}
 use Rattle.words.specs.Binary32.{decimal}
 use borrow.Author.Needs.{needs}

@@ -1,3 +1,4 @@
+-- The polynomial, operation by operation.
 use mathlib.Core.Path.{refl}
 use lib.Ieee.{ofBits}
 use Rattle.words.specs.Binary32.{decimal}

@@ -1,3 +1,4 @@
+-- A coordinate of the circle, by its two tests.
 use lib.Ieee.{ofBits}
 use Rattle.words.specs.Binary32.{decimal}
 use borrow.Author.Needs.{needs}

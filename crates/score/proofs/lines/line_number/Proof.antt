@@ -1,13 +1,7 @@
--- `score::lines::line_number` meets its contract, test by test.
-use mathlib.Core.Path.{sym, ap, subst, _∙_}
-use mathlib.Core.Bool.{cond}
+-- `line_number` tests 11 and then 9. In a score the first sources are as many as a row has words.
+use mathlib.Core.Path.{sym, _∙_}
 use borrow.Author.Tests.{not-true, not-false}
-use lib.ListN.{take}
-use Rattle.score.specs.Limits.{rowWithin}
-use Rattle.score.specs.Numbers.{limitNumber}
-use Rattle.score.specs.Text.{holdsWords, rowOf}
-use Rattle.score.specs.Inner.{lineAt, Columns}
-use Rattle.score.proofs.Rows.{no-value, unlimited, number-by-limit}
+use Rattle.score.proofs.Values.{no-value, unlimited, number-by-limit}
 use borrow.Author.Needs.{needs}
 use Rattle.score.proofs.lines.line_number.Statement.{statement}
 use Rattle.score.proofs.lines.line_number.Tie as tie
@@ -20,26 +14,33 @@ returns c = sym (no-value _ _ _ _ (sym (c .before .holds-words .ensures) ∙ not
 
 line-within-requires : tie.Need-line-within-requires
 line-within-requires c κs =
-    let a = c .before .before .before .before .args in
-    let p = c .before .before .before .before .pre in
-    let five = p .1 .1 (c .if2 .taken) in
-    (subst (Columns _) five (p .1 .0), ap (λ n. holdsWords n (lineAt (a .text .now) (a .from))) (sym five) ∙ sym (c .before .before .holds-words .ensures) ∙ not-false _ (c .before .if1 .left))
+    let p = c .before .before .before .before in
+    let five = p .pre .1 .1 (c .if2 .taken) in
+    let s = p .pre .1 .0 in
+    record {
+      names = p .args .shape .names;
+      some = s .some-names;
+      words = sym (c .before .before .holds-words .ensures) ∙ not-false _ (c .before .if1 .left);
+      readable = rw five at (s .readable);
+    }
 
 returns-2 : tie.Need-returns-2
 returns-2 c =
-    let b = c .before .before .before .before in
-    let p = b .before .before .pre in
-    let five = p .1 .1 (c .before .before .if2 .taken) in
-    sym (number-by-limit _ _ _ (sym (b .holds-words .ensures) ∙ not-false _ (c .before .before .before .if1 .left)) _ (c .before .before .if2 .taken)
-    ∙ ap (λ t. cond t 0 limitNumber) (ap (λ n. rowWithin (rowOf (take n (b .before .before .args .columns .now)) (lineAt (b .before .before .args .text .now) (b .before .before .args .from)))) five ∙ sym (c .before .line-within .ensures) ∙ not-true _ (c .if3 .taken)))
+    let h = c .before .before .before .before in
+    let p = h .before .before in
+    let five = p .pre .1 .1 (c .before .before .if2 .taken) in
+    let words = sym (h .holds-words .ensures) ∙ not-false _ (c .before .before .before .if1 .left) in
+    let within = sym (c .before .line-within .ensures) ∙ not-true _ (c .if3 .taken) in
+    sym (number-by-limit _ _ _ words _ (c .before .before .if2 .taken) ∙ rw (five, within))
 
 returns-3 : tie.Need-returns-3
 returns-3 c =
-    let b = c .before .before .before .before in
-    let p = b .before .before .pre in
-    let five = p .1 .1 (c .before .before .if2 .taken) in
-    sym (number-by-limit _ _ _ (sym (b .holds-words .ensures) ∙ not-false _ (c .before .before .before .if1 .left)) _ (c .before .before .if2 .taken)
-    ∙ ap (λ t. cond t 0 limitNumber) (ap (λ n. rowWithin (rowOf (take n (b .before .before .args .columns .now)) (lineAt (b .before .before .args .text .now) (b .before .before .args .from)))) five ∙ sym (c .before .line-within .ensures) ∙ not-false _ (c .if3 .left)))
+    let h = c .before .before .before .before in
+    let p = h .before .before in
+    let five = p .pre .1 .1 (c .before .before .if2 .taken) in
+    let words = sym (h .holds-words .ensures) ∙ not-false _ (c .before .before .before .if1 .left) in
+    let within = sym (c .before .line-within .ensures) ∙ not-false _ (c .if3 .left) in
+    sym (number-by-limit _ _ _ words _ (c .before .before .if2 .taken) ∙ rw (five, within))
 
 returns-4 : tie.Need-returns-4
 returns-4 c = sym (unlimited _ _ _ (sym (c .before .before .holds-words .ensures) ∙ not-false _ (c .before .if1 .left)) _ (c .if2 .left))

@@ -1,4 +1,4 @@
--- `score::lines::line_within` meets its contract: it tests the row that `write_row` left.
+-- `line_within` tests the row that `write_row` left.
 use mathlib.Core.Path.{ap, _∙_}
 use Rattle.score.specs.Limits.{rowWithin}
 use borrow.Author.Needs.{needs}

@@ -1,49 +1,42 @@
--- `score::lines::write_row` meets its contract: the words stored and those of the columns from `k` on are the row.
-use Prim.Native.Nat.{_-_}
+-- `write_row` stores word after word: those stored and those of the sources from `k` on are the row.
+use Prim.Native.Nat.{_-_, _≤_, _<_}
 use native.Mathlib.Omega.{arith}
-use mathlib.Core.Path.{refl, _∙_}
-use borrow.Author.Needs.{needs}
-use lib.ListN.{length, length-set}
+use mathlib.Core.Path.{_≡_, refl, sym}
+use lib.ListN.{length, take, length-set}
+use lib.Seq.{length-take-le}
 use Rattle.score.specs.Inner.{lineAt}
-use Rattle.score.proofs.Rows.{Written, writes, writes-on, written, column-word, column-fits, column-value}
+use borrow.Author.Needs.{needs}
+use Rattle.score.proofs.Names.{source-at}
+use Rattle.score.proofs.Values.{Written, writes, writes-on, written, on-line-at}
 use Rattle.score.proofs.lines.write_row.Statement.{statement}
 use Rattle.score.proofs.lines.write_row.Tie as tie
 
 abbrev Inv-loop : tie.InvT-loop
-Inv-loop text from columns row₀ k₀ row k = Written columns (lineAt text from) (length row₀) row k
+Inv-loop text from row₀ sources k₀ row k = (length row ≡ length row₀) × Written (take (length row₀) sources) (lineAt text from) row k
 
 abbrev μ-loop : tie.MeasureT-loop
-μ-loop text from columns row₀ k₀ row k = length row - k
+μ-loop text from row₀ sources k₀ row k = length row - k
 
 loop-holds : tie.Need-loop-holds Inv-loop μ-loop
-loop-holds c = writes _ _ _ (c .before .before .pre .0 .enough) _ refl
+loop-holds c =
+    let p = c .before .before in
+    let six : length (p .args .t3) ≡ 6 = search needs in
+    (refl, writes _ _ _ (sym (length-take-le _ (p .args .t3) (omega (arith, p .pre .1)))))
 
-mul-column : tie.Need-mul-column Inv-loop μ-loop
-mul-column c = search needs
+mul-word-from : tie.Need-mul-word-from Inv-loop μ-loop
+mul-word-from c = search needs
 
-element-copy-out-column : tie.Need-element-copy-out-column Inv-loop μ-loop
-element-copy-out-column c = search needs
+array-copy-out-word-from : tie.Need-array-copy-out-word-from Inv-loop μ-loop
+array-copy-out-word-from c = search needs
 
-mul-word-at : tie.Need-mul-word-at Inv-loop μ-loop
-mul-word-at c =
-    let a = c .before .before .before .before .before .args in
-    let p = c .before .before .before .before .before .pre in
+word-from-requires : tie.Need-word-from-requires Inv-loop μ-loop
+word-from-requires c κs =
+    let p = c .before .before .before .before .before in
     let l = c .before .before .loop in
-    omega (arith, column-fits (a .text .now) (a .from) (a .columns .now) (length (a .row .now)) (p .0) (p .1 .0) (l .k) (omega (arith, l .inv .long)))
-
-add-word-at : tie.Need-add-word-at Inv-loop μ-loop
-add-word-at c =
-    let a = c .before .before .before .before .before .args in
-    let p = c .before .before .before .before .before .pre in
-    let l = c .before .before .loop in
-    omega (arith, column-fits (a .text .now) (a .from) (a .columns .now) (length (a .row .now)) (p .0) (p .1 .0) (l .k) (omega (arith, l .inv .long)))
-
-word-at-requires : tie.Need-word-at-requires Inv-loop μ-loop
-word-at-requires c κs =
-    let a = c .before .before .before .before .before .args in
-    let p = c .before .before .before .before .before .pre in
-    let l = c .before .before .loop in
-    column-word (a .text .now) (a .from) (a .columns .now) (length (a .row .now)) (p .0) (p .1 .0) (l .k) (omega (arith, l .inv .long))
+    let six : length (p .args .t3) ≡ 6 = search needs in
+    let w : length (p .args .row .now) ≤ length (p .args .t3) = omega (arith, p .pre .1) in
+    let h : l .k < length (p .args .row .now) = omega (arith, l .inv .0, c .before .loop-test .taken) in
+    on-line-at _ _ (l .k) _ (p .pre .0) (source-at (p .args .t3) _ _ w h)
 
 mul-row : tie.Need-mul-row Inv-loop μ-loop
 mul-row c = search needs
@@ -55,20 +48,25 @@ add-k : tie.Need-add-k Inv-loop μ-loop
 add-k c = search needs
 
 loop-less : tie.Need-loop-less Inv-loop μ-loop
-loop-less c = simp length-set (omega (arith, c .before .before .before .loop .inv .long))
+loop-less c = simp length-set (omega arith)
 
 loop-again : tie.Need-loop-again Inv-loop μ-loop
 loop-again c =
-    let a = c .before .before .before .before .before .before .args in
-    let p = c .before .before .before .before .before .before .pre in
+    let p = c .before .before .before .before .before .before in
     let l = c .before .before .before .loop in
-    writes-on _ _ _ (p .0 .enough) _ _ _ (l .inv) (omega (arith, l .inv .long)) (c .word-at .ensures ∙ column-value (a .text .now) (a .from) (a .columns .now) (length (a .row .now)) (p .0) (p .1 .0) (l .k) (omega (arith, l .inv .long)))
+    let six : length (p .args .t3) ≡ 6 = search needs in
+    let w : length (p .args .row .now) ≤ length (p .args .t3) = omega (arith, p .pre .1) in
+    let n = length-take-le (length (p .args .row .now)) (p .args .t3) w in
+    let h : l .k < length (p .args .row .now) = omega (arith, l .inv .0, c .before .before .loop-test .taken) in
+    (simp length-set (l .inv .0), writes-on _ _ _ _ _ _ (l .inv .1) (omega arith) (source-at (p .args .t3) _ _ w h) (c .word-from .ensures))
 
 same-length : tie.Need-same-length Inv-loop μ-loop
 same-length c = search needs
 
 returns : tie.Need-returns Inv-loop μ-loop
-returns c = written _ _ _ (c .before .before .before .before .pre .0 .enough) _ _ (c .before .loop .inv) (omega (arith, c .before .loop .inv .long))
+returns c =
+    let l = c .before .loop in
+    written _ _ _ _ (l .inv .1) (omega (arith, l .inv .1 .long, c .loop-test .left))
 
 pub write-row-spec : {M : Type 1} → statement M
 write-row-spec =
@@ -77,11 +75,9 @@ write-row-spec =
     Inv-loop
     μ-loop
     loop-holds
-    mul-column
-    element-copy-out-column
-    mul-word-at
-    add-word-at
-    word-at-requires
+    mul-word-from
+    array-copy-out-word-from
+    word-from-requires
     mul-row
     slice-write-row
     add-k

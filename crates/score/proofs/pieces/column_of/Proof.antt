@@ -39,7 +39,9 @@ returns c =
     let a = c .before .before .before .before .before .before .before .before .args in
     let b = c .before .before .before in
     let e = next-piece space (a .line .now) (b .before .before .loop .from) (b .piece-end .result) (b .before .loop-test .taken) (b .piece-end .ensures .0) in
-    omega (arith, b .before .before .loop .inv, ap (columnOf (a .name .now)) e, column-here (a .name .now) _ (rest space (a .line .now) (b .piece-end .result + 1)) (sym (c .before .same .ensures) ∙ c .if1 .taken))
+    let later = rest space (a .line .now) (b .piece-end .result + 1) in
+    let here = column-here (a .name .now) _ later (sym (c .before .same .ensures) ∙ c .if1 .taken) in
+    omega (arith, b .before .before .loop .inv, ap (columnOf (a .name .now)) e, here)
 
 add-from : tie.Need-add-from Inv-loop μ-loop
 add-from c = search needs
@@ -55,7 +57,9 @@ loop-again c =
     let a = c .before .before .before .before .before .before .before .before .args in
     let b = c .before .before .before in
     let e = next-piece space (a .line .now) (b .before .before .loop .from) (b .piece-end .result) (b .before .loop-test .taken) (b .piece-end .ensures .0) in
-    (search needs, search needs, omega (arith, ap (columnOf (a .name .now)) e, column-later (a .name .now) _ (rest space (a .line .now) (b .piece-end .result + 1)) (sym (c .before .same .ensures) ∙ c .if1 .left)))
+    let later = rest space (a .line .now) (b .piece-end .result + 1) in
+    let on = column-later (a .name .now) _ later (sym (c .before .same .ensures) ∙ c .if1 .left) in
+    (search needs, search needs, omega (arith, ap (columnOf (a .name .now)) e, on))
 
 returns-2 : tie.Need-returns-2 Inv-loop μ-loop
 returns-2 c =

@@ -1,19 +1,19 @@
--- `score::reader::test_lines` meets its contract: the lines that are left decide.
+-- `test_lines` tests line after line: those that are left decide.
 use mathlib.Core.Path.{refl, sym, ap, _∙_}
 use Prim.Native.Nat.{_-_}
 use native.Mathlib.Omega.{arith}
-use borrow.Author.Needs.{needs}
 use lib.ListN.{length, take}
-use Rattle.score.specs.Numbers.{refused}
-use Rattle.score.proofs.Rows.{Tested, none-left, line-refused, line-fits, line-passes}
+use Rattle.score.specs.Reading.{refusedAt}
+use Rattle.score.proofs.Values.{Tested, none-left, line-refused, line-fits, line-passes}
+use borrow.Author.Needs.{needs}
 use Rattle.score.proofs.reader.test_lines.Statement.{statement}
 use Rattle.score.proofs.reader.test_lines.Tie as tie
 
 abbrev Inv-loop : tie.InvT-loop
-Inv-loop text next columns count limited from₀ at₀ from at = Tested count (take count columns) limited text next from at
+Inv-loop text next sources shape score names from₀ at₀ from at = Tested names (take (shape .width) sources) score text next from at
 
 abbrev μ-loop : tie.MeasureT-loop
-μ-loop text next columns count limited from₀ at₀ from at = length text - from
+μ-loop text next sources shape score names from₀ at₀ from at = length text - from
 
 loop-holds : tie.Need-loop-holds Inv-loop μ-loop
 loop-holds c = record { inside = c .before .pre .0; counted = search needs; left = refl }
@@ -23,41 +23,43 @@ line-number-requires c κs = let p = c .before .before .before .pre in (search n
 
 returns : tie.Need-returns Inv-loop μ-loop
 returns c =
-    let a = c .before .before .before .before .before .args in
-    let p = c .before .before .before .before .before .pre in
     let l = c .before .before .before .loop in
-    sym (l .inv .left ∙ line-refused (a .count) (take (a .count) (a .columns .now)) (a .limited) (a .text .now) (l .from) (l .at) (c .before .before .loop-test .taken) (λ e. c .if1 .taken (c .before .line-number .ensures ∙ e)) ∙ ap (λ n. refused n (l .at)) (sym (c .before .line-number .ensures)))
+    let n = c .before .line-number .ensures in
+    let r = line-refused _ _ _ _ _ _ (c .before .before .loop-test .taken) (λ e. c .if1 .taken (n ∙ e)) in
+    sym (l .inv .left ∙ r ∙ ap (λ m. refusedAt m (l .at)) (sym n))
 
 mul-from : tie.Need-mul-from Inv-loop μ-loop
 mul-from c =
-    let a = c .before .before .before .before .before .args in
     let p = c .before .before .before .before .before .pre in
     let l = c .before .before .before .loop in
-    omega (arith, line-fits (a .count) (take (a .count) (a .columns .now)) (a .limited) (a .text .now) (l .from) (l .at) (p .1 .0 .some) (sym (c .before .line-number .ensures) ∙ c .if1 .left) (l .inv .inside))
+    omega (arith, line-fits _ _ _ _ _ (p .1 .0 .some-names) (sym (c .before .line-number .ensures) ∙ c .if1 .left) (l .inv .inside))
 
 add-from : tie.Need-add-from Inv-loop μ-loop
 add-from c =
-    let a = c .before .before .before .before .before .args in
     let p = c .before .before .before .before .before .pre in
     let l = c .before .before .before .loop in
-    omega (arith, line-fits (a .count) (take (a .count) (a .columns .now)) (a .limited) (a .text .now) (l .from) (l .at) (p .1 .0 .some) (sym (c .before .line-number .ensures) ∙ c .if1 .left) (l .inv .inside))
+    omega (arith, line-fits _ _ _ _ _ (p .1 .0 .some-names) (sym (c .before .line-number .ensures) ∙ c .if1 .left) (l .inv .inside))
 
 add-at : tie.Need-add-at Inv-loop μ-loop
 add-at c = search needs
 
 loop-less : tie.Need-loop-less Inv-loop μ-loop
 loop-less c =
-    let a = c .before .before .before .before .before .args in
     let p = c .before .before .before .before .before .pre in
     let l = c .before .before .before .loop in
-    omega (arith, line-fits (a .count) (take (a .count) (a .columns .now)) (a .limited) (a .text .now) (l .from) (l .at) (p .1 .0 .some) (sym (c .before .line-number .ensures) ∙ c .if1 .left) (l .inv .inside), p .1 .0 .some)
+    omega (arith, line-fits _ _ _ _ _ (p .1 .0 .some-names) (sym (c .before .line-number .ensures) ∙ c .if1 .left) (l .inv .inside), p .1 .0 .some-names)
 
 loop-again : tie.Need-loop-again Inv-loop μ-loop
 loop-again c =
-    let a = c .before .before .before .before .before .args in
     let p = c .before .before .before .before .before .pre in
     let l = c .before .before .before .loop in
-    record { inside = line-fits (a .count) (take (a .count) (a .columns .now)) (a .limited) (a .text .now) (l .from) (l .at) (p .1 .0 .some) (sym (c .before .line-number .ensures) ∙ c .if1 .left) (l .inv .inside); counted = omega (arith, p .1 .0 .some); left = l .inv .left ∙ line-passes (a .count) (take (a .count) (a .columns .now)) (a .limited) (a .text .now) (l .from) (l .at) (p .1 .0 .some) (sym (c .before .line-number .ensures) ∙ c .if1 .left) (c .before .before .loop-test .taken) }
+    let some = p .1 .0 .some-names in
+    let z = sym (c .before .line-number .ensures) ∙ c .if1 .left in
+    record {
+      inside = line-fits _ _ _ _ _ some z (l .inv .inside);
+      counted = omega (arith, l .inv .counted, some);
+      left = l .inv .left ∙ line-passes _ _ _ _ _ some z _ (c .before .before .loop-test .taken);
+    }
 
 returns-2 : tie.Need-returns-2 Inv-loop μ-loop
 returns-2 c = sym (c .before .loop .inv .left ∙ none-left _ _ _ _ _ _ (c .loop-test .left))

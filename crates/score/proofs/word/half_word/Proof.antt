@@ -1,4 +1,4 @@
--- `score::word::half_word` meets its contract, by the list of its bytes.
+-- `half_word` reads four digits, by the list of its bytes.
 use Rattle.score.proofs.Digits.{four-digits, four-value}
 use borrow.Author.Needs.{needs}
 use Rattle.score.proofs.word.half_word.Statement.{statement}
@@ -57,10 +57,12 @@ add-result-3 c = search needs
 
 returns : tie.Need-returns
 returns c =
-    let b = c .before .before .before .before .before .before .before .before .before in (
-      rw (c .digit4 .ensures .0, c .before .before .digit3 .ensures .0, c .before .before .before .before .digit2 .ensures .0, c .before .before .before .before .before .before .digit .ensures .0) (four-value (b .args .text .now) (b .args .at) (b .pre .0)),
-      search needs,
-    )
+    let p = c .before .before .before .before .before .before .before .before .before in
+    let fourth = c .digit4 .ensures .0 in
+    let third = c .before .before .digit3 .ensures .0 in
+    let second = c .before .before .before .before .digit2 .ensures .0 in
+    let first = c .before .before .before .before .before .before .digit .ensures .0 in
+    (rw (fourth, third, second, first) (four-value (p .args .text .now) (p .args .at) (p .pre .0)), search needs)
 
 pub half-word-spec : {M : Type 1} → statement M
 half-word-spec =

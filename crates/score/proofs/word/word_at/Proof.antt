@@ -1,4 +1,4 @@
--- `score::word::word_at` meets its contract: a word is its two halves.
+-- `word_at` reads a word by its two halves.
 use native.Mathlib.Omega.{arith}
 use Rattle.score.proofs.Digits.{word-fits, half-digits, word-of-halves}
 use borrow.Author.Needs.{needs}

@@ -1,6 +1,6 @@
--- `render_refusal` is the definition, by one law for each answer (`Refusals`).
+-- `render_refusal` is the definition: 1 to 7, then 9.
+use Rattle.take.proofs.Refusals.{render-lent, render-limits}
 use borrow.Author.Needs.{needs}
-use Rattle.take.proofs.Refusals.{render-lent, render-bad, render-good}
 use Rattle.take.proofs.refusal.render_refusal.Statement.{statement}
 use Rattle.take.proofs.refusal.render_refusal.Tie as tie
 
@@ -10,17 +10,12 @@ lent-number-requires c κs = search needs
 returns : tie.Need-returns
 returns c = render-lent _ _ _ _ (c .before .lent-number .ensures) (c .if1 .taken)
 
-first-bad-requires : tie.Need-first-bad-requires
-first-bad-requires c κs = search needs
+limit-refusal-requires : tie.Need-limit-refusal-requires
+limit-refusal-requires c κs = search needs
 
 returns-2 : tie.Need-returns-2
-returns-2 c =
-    render-bad _ _ _ _ (c .before .before .before .lent-number .ensures) (c .before .before .if1 .left) _ (c .before .first-bad .ensures) (c .if2 .taken)
-
-returns-3 : tie.Need-returns-3
-returns-3 c =
-    render-good _ _ _ _ (c .before .before .before .lent-number .ensures) (c .before .before .if1 .left) _ (c .before .first-bad .ensures) (c .if2 .left)
+returns-2 c = render-limits _ _ _ _ (c .before .before .lent-number .ensures) (c .before .if1 .left) _ (c .limit-refusal .ensures)
 
 pub render-refusal-spec : {M : Type 1} → statement M
 render-refusal-spec =
-    tie.close (tie.spec lent-number-requires returns first-bad-requires returns-2 returns-3)
+    tie.close (tie.spec lent-number-requires returns limit-refusal-requires returns-2)

@@ -12,26 +12,43 @@ returns c = simp (lt-ltb _ _ (c .if1 .taken))
 
 returns-2 : tie.Need-returns-2
 unfolding settingsNumber
-returns-2 c = simp (le-ltb _ _ (c .before .if1 .left), lt-ltb _ _ (c .if2 .taken))
+returns-2 c =
+    let one = c .before in
+    simp (le-ltb _ _ (one .if1 .left), lt-ltb _ _ (c .if2 .taken))
 
 returns-3 : tie.Need-returns-3
 unfolding settingsNumber
-returns-3 c = simp (le-ltb _ _ (c .before .before .if1 .left), le-ltb _ _ (c .before .if2 .left), lt-ltb _ _ (c .if3 .taken))
+returns-3 c =
+    let two = c .before in
+    let one = two .before in
+    simp (le-ltb _ _ (one .if1 .left), le-ltb _ _ (two .if2 .left), lt-ltb _ _ (c .if3 .taken))
 
 returns-4 : tie.Need-returns-4
 unfolding settingsNumber
 returns-4 c =
-    simp (le-ltb _ _ (c .before .before .before .if1 .left), le-ltb _ _ (c .before .before .if2 .left), le-ltb _ _ (c .before .if3 .left), eq-eqb _ _ (c .if4 .taken))
+    let three = c .before in
+    let two = three .before in
+    let one = two .before in
+    simp (le-ltb _ _ (one .if1 .left), le-ltb _ _ (two .if2 .left), le-ltb _ _ (three .if3 .left), eq-eqb _ _ (c .if4 .taken))
 
 returns-5 : tie.Need-returns-5
 unfolding settingsNumber
 returns-5 c =
-    simp (le-ltb _ _ (c .before .before .before .before .if1 .left), le-ltb _ _ (c .before .before .before .if2 .left), le-ltb _ _ (c .before .before .if3 .left), ne-eqb _ _ (c .before .if4 .left), lt-ltb _ _ (c .if5 .taken))
+    let four = c .before in
+    let three = four .before in
+    let two = three .before in
+    let one = two .before in
+    simp (le-ltb _ _ (one .if1 .left), le-ltb _ _ (two .if2 .left), le-ltb _ _ (three .if3 .left), ne-eqb _ _ (four .if4 .left), lt-ltb _ _ (c .if5 .taken))
 
 returns-6 : tie.Need-returns-6
 unfolding settingsNumber
 returns-6 c =
-    simp (le-ltb _ _ (c .before .before .before .before .before .if1 .left), le-ltb _ _ (c .before .before .before .before .if2 .left), le-ltb _ _ (c .before .before .before .if3 .left), ne-eqb _ _ (c .before .before .if4 .left), le-ltb _ _ (c .before .if5 .left), ne-eqb _ _ (c .if6 .taken))
+    let five = c .before in
+    let four = five .before in
+    let three = four .before in
+    let two = three .before in
+    let one = two .before in
+    simp (le-ltb _ _ (one .if1 .left), le-ltb _ _ (two .if2 .left), le-ltb _ _ (three .if3 .left), ne-eqb _ _ (four .if4 .left), le-ltb _ _ (five .if5 .left), ne-eqb _ _ (c .if6 .taken))
 
 map-length-requires : tie.Need-map-length-requires
 map-length-requires c κs = search needs
@@ -39,12 +56,24 @@ map-length-requires c κs = search needs
 returns-7 : tie.Need-returns-7
 unfolding settingsNumber
 returns-7 c =
-    simp (le-ltb _ _ (c .before .before .before .before .before .before .before .if1 .left), le-ltb _ _ (c .before .before .before .before .before .before .if2 .left), le-ltb _ _ (c .before .before .before .before .before .if3 .left), ne-eqb _ _ (c .before .before .before .before .if4 .left), le-ltb _ _ (c .before .before .before .if5 .left), eq-eqb _ _ (c .before .before .if6 .left), sym (c .before .map-length .ensures), ne-eqb _ _ (c .if7 .taken))
+    let six = c .before .before in
+    let five = six .before in
+    let four = five .before in
+    let three = four .before in
+    let two = three .before in
+    let one = two .before in
+    simp (le-ltb _ _ (one .if1 .left), le-ltb _ _ (two .if2 .left), le-ltb _ _ (three .if3 .left), ne-eqb _ _ (four .if4 .left), le-ltb _ _ (five .if5 .left), eq-eqb _ _ (six .if6 .left), sym (c .before .map-length .ensures), ne-eqb _ _ (c .if7 .taken))
 
 returns-8 : tie.Need-returns-8
 unfolding settingsNumber
 returns-8 c =
-    simp (le-ltb _ _ (c .before .before .before .before .before .before .before .if1 .left), le-ltb _ _ (c .before .before .before .before .before .before .if2 .left), le-ltb _ _ (c .before .before .before .before .before .if3 .left), ne-eqb _ _ (c .before .before .before .before .if4 .left), le-ltb _ _ (c .before .before .before .if5 .left), eq-eqb _ _ (c .before .before .if6 .left), sym (c .before .map-length .ensures), eq-eqb _ _ (c .if7 .left))
+    let six = c .before .before in
+    let five = six .before in
+    let four = five .before in
+    let three = four .before in
+    let two = three .before in
+    let one = two .before in
+    simp (le-ltb _ _ (one .if1 .left), le-ltb _ _ (two .if2 .left), le-ltb _ _ (three .if3 .left), ne-eqb _ _ (four .if4 .left), le-ltb _ _ (five .if5 .left), eq-eqb _ _ (six .if6 .left), sym (c .before .map-length .ensures), eq-eqb _ _ (c .if7 .left))
 
 pub settings-number-spec : {M : Type 1} → statement M
 settings-number-spec =

@@ -23,7 +23,12 @@ entry-requires-2 c κs = search needs
 
 returns : tie.Need-returns
 unfolding semitonesToRatio ofBits decimal
-returns c = rw (c .entry2 .ensures, c .before .whole2 .ensures, c .before .before .before .entry .ensures, c .before .before .before .before .before .float-of-u64 .ensures, c .before .before .before .before .before .before .whole .ensures)
+returns c =
+    let at-whole2 = c .before in
+    let at-entry = at-whole2 .before .before in
+    let at-float-of-u64 = at-entry .before .before in
+    let at-whole = at-float-of-u64 .before in
+    rw (c .entry2 .ensures, at-whole2 .whole2 .ensures, at-entry .entry .ensures, at-float-of-u64 .float-of-u64 .ensures, at-whole .whole .ensures)
 
 pub semitones-to-ratio-spec : {M : Type 1} → statement M
 semitones-to-ratio-spec =

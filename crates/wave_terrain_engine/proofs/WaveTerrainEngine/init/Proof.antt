@@ -1,3 +1,4 @@
+-- The fresh state, by the fresh path.
 use lib.Ieee.{ofBits}
 use Rattle.words.specs.Binary32.{decimal}
 use borrow.Author.Needs.{needs}

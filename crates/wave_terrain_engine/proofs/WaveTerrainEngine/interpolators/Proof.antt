@@ -1,3 +1,4 @@
+-- The start of the frames, by what each helper ensures.
 use lib.Ieee.{ofBits}
 use Rattle.words.specs.Binary32.{decimal}
 use Rattle.wave_terrain_engine.specs.Block.{interpolatorsOf}
@@ -22,7 +23,12 @@ new-requires-2 c κs = search needs
 
 returns : tie.Need-returns
 unfolding interpolatorsOf ofBits decimal
-returns c = rw (c .new2 .ensures, c .before .min .ensures, c .before .before .before .float-of-u64 .ensures, c .before .before .before .before .num-terrains .ensures, c .before .before .before .before .before .new .ensures)
+returns c =
+    let at-min = c .before in
+    let at-float-of-u64 = at-min .before .before in
+    let at-num-terrains = at-float-of-u64 .before in
+    let at-new = at-num-terrains .before in
+    rw (c .new2 .ensures, at-min .min .ensures, at-float-of-u64 .float-of-u64 .ensures, at-num-terrains .num-terrains .ensures, at-new .new .ensures)
 
 pub interpolators-spec : {M : Type 1} → statement M
 interpolators-spec =

@@ -1,7 +1,8 @@
 -- The path and then the frames are the block, by the law of `Blocks`.
 use mathlib.Core.Path.{_≡_, sym}
-use lib.Ieee.{binary32, ofBits}
+use lib.Ieee.{nan, binary32, ofBits}
 use Rattle.words.specs.Binary32.{decimal}
+use Rattle.oscillator.proofs.Runs.{run-taken}
 use Rattle.wave_terrain_engine.specs.Block.{scale}
 use Rattle.wave_terrain_engine.proofs.Blocks.{block-renders}
 use Rattle.wave_terrain_engine.proofs.Places.{scale-half}
@@ -30,17 +31,19 @@ layer-top-requires c κs = search needs
 
 render-frames-requires : tie.Need-render-frames-requires
 render-frames-requires c κs =
-    let pre = c .before .before .before .before .before .before .before .before .before .before .before .before .before .before .before .before .before .before .before .pre in (
+    let top = c .before .before .before .before .before .before .before .before .before .layer-top .ensures in
+    let pre = c .before .before .before .before .before .before .before .before .before .before .before .before .before .before .before .before .before .before .before .pre in
+    let few = pre .1 .few-frames in (
       pre .0,
       (
-        (c .before .before .before .before .before .before .before .before .before .layer-top .ensures, pre .1 .1),
+        (top, pre .1 .aux-long),
         record {
-          run-room = omega (arith, pre .1 .0);
-          run2-room = omega (arith, pre .1 .0);
-          xs-room = omega (arith, pre .1 .0);
-          z1s-room = omega (arith, pre .1 .0);
-          layers-room = omega (arith, pre .1 .0);
-          fractions-room = omega (arith, pre .1 .0);
+          run-room = omega (arith, few);
+          run2-room = omega (arith, few);
+          xs-room = omega (arith, few);
+          z1s-room = omega (arith, few);
+          layers-room = omega (arith, few);
+          fractions-room = omega (arith, few);
         },
       ),
     )
@@ -57,16 +60,21 @@ half-is = sym scale-half
 
 returns : tie.Need-returns
 returns c =
-    let path = c .before .before .before .before .before .before .before .before .before .before .before .before .before .before .before .before .render-quadrature .ensures in
-    let frames = c .before .before .before .before .render-frames .ensures in
+    let at-frames = c .before .before .before .before .before in
+    let at-interpolators = at-frames .before .before .before .before .before .before .before .before .before .before .before in
+    let at-path = at-interpolators .before in
+    let at-radius = at-path .before .before .before in
+    let at-frequency = at-radius .before in
+    let frames = at-frames .render-frames .ensures in
+    let path = at-path .render-quadrature .ensures in
     block-renders _ _ _ _ _ _ _ _ _ _ _ _ _ _ _ _ _ _ _
-    (c .before .before .before .before .before .before .before .before .before .before .before .before .before .before .before .before .before .before .before .before .note-to-frequency .ensures)
+    (at-frequency .note-to-frequency .ensures)
     half-is
-    (c .before .before .before .before .before .before .before .before .before .before .before .before .before .before .before .before .before .before .before .radius-at .ensures)
+    (at-radius .radius-at .ensures)
     (path .0)
-    (path .1 .0)
-    (path .1 .1)
-    (c .before .before .before .before .before .before .before .before .before .before .before .before .before .before .before .interpolators .ensures)
+    (run-taken _ _ nan _ _ _ _ (path .1 .0))
+    (run-taken _ _ nan _ _ _ _ (path .1 .1))
+    (at-interpolators .interpolators .ensures)
     (frames .0)
     (frames .1)
 

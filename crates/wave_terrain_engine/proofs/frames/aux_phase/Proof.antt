@@ -1,3 +1,4 @@
+-- A frame's aux phase: its scale is the one that the source computes.
 use lib.Ieee.{ofBits}
 use Rattle.words.specs.Binary32.{decimal}
 use Rattle.wave_terrain_engine.proofs.Places.{scale-half}

@@ -2,9 +2,10 @@
 use borrow.Author.Needs.{needs}
 use native.Mathlib.Omega.{arith}
 use Prim.Native.Nat.{suc, _-_, _/_, _≤_, zero-le}
-use mathlib.Core.Path.{_≡_, ap}
+use mathlib.Core.Path.{_≡_, ap, _∙_}
 use lib.Ieee.{nan}
 use Rattle.utils.specs.Frames.{sumOf}
+use Rattle.utils.proofs.Sums.{most-more, most-plus}
 use Rattle.oscillator.proofs.Runs.{Filling, filling-none, filling-more}
 use Rattle.wave_terrain_engine.specs.declared.terrain.Reading.{Reading}
 use Rattle.wave_terrain_engine.specs.Stages.{stageHeight}
@@ -14,16 +15,19 @@ use Rattle.wave_terrain_engine.proofs.frames.heights.Statement.{stateme
 use Rattle.wave_terrain_engine.proofs.frames.heights.Tie as tie
 
 abbrev Inv-loop : tie.InvT-loop
-Inv-loop n up table bank map xs ys layers zs₀ held₀ i₀ zs held i =
+Inv-loop n up table bank map xs ys layers zs₀ holds₀ i₀ zs holds i =
     (i ≤ n)
-    × ((held ≡ sumOf suc (λ j. stageHeight table bank map xs ys layers up j .held) i 0)
+    × ((holds ≡ sumOf suc (λ j. stageHeight table bank map xs ys layers up j .holds) i 0)
     × Filling (λ j. stageHeight table bank map xs ys layers up j .value) nan zs₀ zs i)
 
 abbrev μ-loop : tie.MeasureT-loop
-μ-loop n up table bank map xs ys layers zs₀ held₀ i₀ zs held i = n - i
+μ-loop n up table bank map xs ys layers zs₀ holds₀ i₀ zs holds i = n - i
 
 loop-holds : tie.Need-loop-holds Inv-loop μ-loop
-loop-holds c = (zero-le, (count-none _, filling-none _ _ _))
+loop-holds c = (zero-le, (c .none .ensures ∙ count-none _, filling-none _ _ _))
+
+none-requires : tie.Need-none-requires Inv-loop μ-loop
+none-requires c κs = search needs
 
 mul-layer : tie.Need-mul-layer Inv-loop μ-loop
 mul-layer c = search needs
@@ -48,11 +52,15 @@ shared-slice-read-terrain-2 c = search needs
 
 add-terrain : tie.Need-add-terrain Inv-loop μ-loop
 add-terrain c =
-    let entry = c .before .before .before .before .before .before .before .before .before .before in
-    record { fits = omega (arith, entry .pre .1 .1 (c .before .before .before .before .loop .i) (search needs), top-most (entry .args .map .now)) }
+    let at-loop = c .before .before .before .before in
+    let entry = at-loop .before .before .before .before .before .before .before in
+    record { fits = omega (arith, entry .pre .1 .1 (at-loop .loop .i) (search needs), top-most (entry .args .map .now)) }
 
 terrain-requires : tie.Need-terrain-requires Inv-loop μ-loop
-terrain-requires c κs = (c .before .before .before .before .before .before .before .before .before .before .pre .0, c .before .before .before .before .before .before .before .before .before .before .pre .1 .1 (c .before .before .before .before .loop .i) (search needs))
+terrain-requires c κs =
+    let at-loop = c .before .before .before .before in
+    let entry = at-loop .before .before .before .before .before .before .before in
+    (entry .pre .0, entry .pre .1 .1 (at-loop .loop .i) (search needs))
 
 mul-zs : tie.Need-mul-zs Inv-loop μ-loop
 mul-zs c = search needs
@@ -60,11 +68,13 @@ mul-zs c = search needs
 slice-write-zs : tie.Need-slice-write-zs Inv-loop μ-loop
 slice-write-zs c = search needs
 
-add-held : tie.Need-add-held Inv-loop μ-loop
-add-held c =
-    let a = c .before .before .before .before .before .before .before .before .before .before .before .before .args in
-    let few = stage-held (a .table .now) (a .bank .now) (a .map .now) (a .xs .now) (a .ys .now) (a .layers .now) (a .up) _ _ (c .before .before .before .before .before .before .loop .inv .1 .0) in
-    record { fits = omega (arith, few, reading-held _ _ _ _ _ _ _ (c .before .terrain .ensures)) }
+plus-requires : tie.Need-plus-requires Inv-loop μ-loop
+plus-requires c κs =
+    let at-loop = c .before .before .before .before .before in
+    let entry = at-loop .before .before .before .before .before .before .before in
+    let a = entry .args in
+    let few = stage-held (a .table .now) (a .bank .now) (a .map .now) (a .xs .now) (a .ys .now) (a .layers .now) (a .up) _ _ (at-loop .loop .inv .1 .0) in
+    most-more (omega (arith, at-loop .loop .inv .0)) (most-plus few (reading-held _ _ _ _ _ _ _ (c .terrain .ensures)))
 
 add-i : tie.Need-add-i Inv-loop μ-loop
 add-i c = search needs
@@ -78,7 +88,7 @@ loop-again c =
     let z = c .before .terrain .ensures in (
       search needs,
       (
-        count-more _ _ _ _ (inv .1 .0) (ap (λ (r : Reading). r .held) z),
+        c .plus .ensures ∙ count-more _ _ _ _ (inv .1 .0) (ap (λ (r : Reading). r .holds) z),
         filling-more _ _ _ _ _ _ (search needs) (ap (λ (r : Reading). r .value) z) (inv .1 .1),
       ),
     )
@@ -88,11 +98,13 @@ same-length c = search needs
 
 returns : tie.Need-returns Inv-loop μ-loop
 returns c =
-    let inv = c .before .loop .inv in
-    let a = c .before .before .before .before .before .before .before .args in
-    let e : c .before .loop .i ≡ a .n = omega arith in
+    let at-loop = c .before in
+    let entry = at-loop .before .before .before .before .before .before .before in
+    let inv = at-loop .loop .inv in
+    let a = entry .args in
+    let e : at-loop .loop .i ≡ a .n = omega arith in
     let few = stage-held (a .table .now) (a .bank .now) (a .map .now) (a .xs .now) (a .ys .now) (a .layers .now) (a .up) _ _ (inv .1 .0) in
-    (omega (arith, few), (rw e at (inv .1 .0), rw e at (inv .1 .1 .filled)))
+    (rw e at few, (rw e at (inv .1 .0), rw e at (inv .1 .1 .filled)))
 
 pub heights-spec : {M : Type 1} → statement M
 heights-spec =
@@ -100,6 +112,7 @@ heights-spec =
     (tie.spec
     Inv-loop
     μ-loop
+    none-requires
     loop-holds
     mul-layer
     shared-slice-read-layer
@@ -112,7 +125,7 @@ heights-spec =
     terrain-requires
     mul-zs
     slice-write-zs
-    add-held
+    plus-requires
     add-i
     loop-less
     loop-again

@@ -60,13 +60,18 @@ mul-xs-2 : tie.Need-mul-xs-2 Inv-loop μ-loop
 mul-xs-2 c = search needs
 
 slice-write-xs-2 : tie.Need-slice-write-xs-2 Inv-loop μ-loop
-slice-write-xs-2 c = simp length-set (omega (arith, c .before .before .before .before .before .before .loop .inv .xs-are .long, c .before .before .before .before .before .before .before .before .before .before .before .pre))
+slice-write-xs-2 c =
+    let long = c .before .before .before .before .before .before .loop .inv .xs-are .long in
+    let pre = c .before .before .before .before .before .before .before .before .before .before .before .pre in
+    simp length-set (omega (arith, long, pre))
 
 held-part-requires : tie.Need-held-part-requires Inv-loop μ-loop
 held-part-requires c κs = search needs
 
 cast-layers : tie.Need-cast-layers Inv-loop μ-loop
-cast-layers c = record { fits = omega (arith, part-most _ _ _ (c .before .held-part .ensures), c .before .before .before .before .before .before .before .before .before .before .before .before .before .pre) }
+cast-layers c =
+    let pre = c .before .before .before .before .before .before .before .before .before .before .before .before .before .pre in
+    record { fits = omega (arith, part-most _ _ _ (c .before .held-part .ensures), pre) }
 
 mul-layers : tie.Need-mul-layers Inv-loop μ-loop
 mul-layers c = search needs

@@ -1,3 +1,4 @@
+-- The moved x, by what `abs` ensures.
 use lib.Ieee.{ofBits}
 use Rattle.words.specs.Binary32.{decimal}
 use borrow.Author.Needs.{needs}

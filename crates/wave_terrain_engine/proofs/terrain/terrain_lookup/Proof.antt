@@ -24,21 +24,25 @@ held-place-requires : tie.Need-held-place-requires
 held-place-requires c κs = search needs
 
 interpolate-wave-u8-requires : tie.Need-interpolate-wave-u8-requires
-interpolate-wave-u8-requires c κs = omega (arith, place-most _ _ _ (c .held-place .ensures))
+interpolate-wave-u8-requires c κs = omega (arith, place-most _ _ _ _ (c .held-place .ensures))
 
 add-interpolate-wave-u8 : tie.Need-add-interpolate-wave-u8
-add-interpolate-wave-u8 c = record { fits = omega (arith, place-most _ _ _ (c .before .before .held-place .ensures)) }
+add-interpolate-wave-u8 c = record { fits = omega (arith, place-most _ _ _ _ (c .before .before .held-place .ensures)) }
 
 interpolate-wave-u8-requires-2 : tie.Need-interpolate-wave-u8-requires-2
-interpolate-wave-u8-requires-2 c κs = omega (arith, place-most _ _ _ (c .before .before .held-place .ensures))
+interpolate-wave-u8-requires-2 c κs = omega (arith, place-most _ _ _ _ (c .before .before .held-place .ensures))
 
 returns : tie.Need-returns
 unfolding terrainLookup ofBits decimal
 returns c =
-    let cy = c .before .before .before .before .before .before .before .coordinate-at2 .ensures in
-    let cx = c .before .before .before .before .before .before .before .before .coordinate-at .ensures in
-    let place = map-place-of _ _ _ _ _ (c .before .before .before .before .held-place .ensures) (cx .0) (cy .0) in
-    rw (coord-scale, c .before .interpolate-wave-u82 .ensures, c .before .before .before .interpolate-wave-u8 .ensures, place, cx .1, cy .1)
+    let at-far = c .before .before in
+    let at-near = at-far .before .before in
+    let at-place = at-near .before in
+    let at-second = at-place .before .before .before in
+    let cy = at-second .coordinate-at2 .ensures in
+    let cx = at-second .before .coordinate-at .ensures in
+    let place = map-place-of _ _ _ _ _ (at-place .held-place .ensures) (cx .0) (cy .0) in
+    rw (coord-scale, at-far .interpolate-wave-u82 .ensures, at-near .interpolate-wave-u8 .ensures, place, cx .1, cy .1)
 
 pub terrain-lookup-spec : {M : Type 1} → statement M
 terrain-lookup-spec =

@@ -3,8 +3,9 @@ use lib.Ieee.{ofBits}
 use Rattle.words.specs.Binary32.{decimal}
 use Rattle.wave_terrain_engine.specs.Heights.{terrainLookupWt}
 use native.Mathlib.Omega.{arith}
-use Rattle.wave_terrain_engine.proofs.Places.{place-most, bank-place-of, count-float}
+use Rattle.wave_terrain_engine.proofs.Places.{place-most, bank-place-of, last-wave}
 use borrow.Author.Needs.{needs}
+use Rattle.oscillator.proofs.Sizes.{period-float}
 use Rattle.wave_terrain_engine.proofs.terrain.terrain_lookup_wt.Statement.{statement}
 use Rattle.wave_terrain_engine.proofs.terrain.terrain_lookup_wt.Tie as tie
 
@@ -33,21 +34,25 @@ held-place-requires : tie.Need-held-place-requires
 held-place-requires c κs = search needs
 
 interpolate-integrated-wave-requires : tie.Need-interpolate-integrated-wave-requires
-interpolate-integrated-wave-requires c κs = omega (arith, place-most _ _ _ (c .held-place .ensures))
+interpolate-integrated-wave-requires c κs = omega (arith, place-most _ _ _ _ (c .held-place .ensures))
 
 add-interpolate-integrated-wave : tie.Need-add-interpolate-integrated-wave
-add-interpolate-integrated-wave c = record { fits = omega (arith, place-most _ _ _ (c .before .before .held-place .ensures)) }
+add-interpolate-integrated-wave c = record { fits = omega (arith, place-most _ _ _ _ (c .before .before .held-place .ensures)) }
 
 interpolate-integrated-wave-requires-2 : tie.Need-interpolate-integrated-wave-requires-2
-interpolate-integrated-wave-requires-2 c κs = omega (arith, place-most _ _ _ (c .before .before .held-place .ensures))
+interpolate-integrated-wave-requires-2 c κs = omega (arith, place-most _ _ _ _ (c .before .before .held-place .ensures))
 
 returns : tie.Need-returns
 unfolding terrainLookupWt ofBits decimal
 returns c =
-    let wt = c .before .before .before .before .before .before .before .coordinate-at2 .ensures in
-    let sample = c .before .before .before .before .before .before .before .before .coordinate-at .ensures in
-    let place = bank-place-of _ _ _ _ _ _ (c .before .before .before .before .held-place .ensures) (wt .0) (sample .0) in
-    rw (count-float .0, count-float .1, c .before .interpolate-integrated-wave2 .ensures, c .before .before .before .interpolate-integrated-wave .ensures, place, wt .1, sample .1)
+    let at-far = c .before .before in
+    let at-near = at-far .before .before in
+    let at-place = at-near .before in
+    let at-second = at-place .before .before .before in
+    let wt = at-second .coordinate-at2 .ensures in
+    let sample = at-second .before .coordinate-at .ensures in
+    let place = bank-place-of _ _ _ _ _ _ (at-place .held-place .ensures) (wt .0) (sample .0) in
+    rw (period-float, last-wave, at-far .interpolate-integrated-wave2 .ensures, at-near .interpolate-integrated-wave .ensures, place, wt .1, sample .1)
 
 pub terrain-lookup-wt-spec : {M : Type 1} → statement M
 terrain-lookup-wt-spec =

@@ -47,7 +47,34 @@ new-requires-4 c κs = search needs
 
 returns : tie.Need-returns
 unfolding setUp ofBits decimal
-returns c = rw (c .new4 .ensures, c .before .new3 .ensures, c .before .before .quantise3 .ensures, c .before .before .before .new2 .ensures, c .before .before .before .before .quantise2 .ensures, c .before .before .before .before .before .new .ensures, c .before .before .before .before .before .before .quantise .ensures, c .before .before .before .before .before .before .before .clamp2 .ensures, c .before .before .before .before .before .before .before .before .clamp .ensures, c .before .before .before .before .before .before .before .before .before .one-pole3 .ensures, c .before .before .before .before .before .before .before .before .before .before .before .one-pole2 .ensures, c .before .before .before .before .before .before .before .before .before .before .before .before .before .one-pole .ensures, c .before .before .before .before .before .before .before .before .before .before .before .before .before .before .before .note-to-frequency .ensures)
+returns c =
+    let at-new3 = c .before in
+    let at-quantise3 = at-new3 .before in
+    let at-new2 = at-quantise3 .before in
+    let at-quantise2 = at-new2 .before in
+    let at-new = at-quantise2 .before in
+    let at-quantise = at-new .before in
+    let at-clamp2 = at-quantise .before in
+    let at-clamp = at-clamp2 .before in
+    let at-one-pole3 = at-clamp .before in
+    let at-one-pole2 = at-one-pole3 .before .before in
+    let at-one-pole = at-one-pole2 .before .before in
+    let at-note-to-frequency = at-one-pole .before .before in
+    rw (
+      c .new4 .ensures,
+      at-new3 .new3 .ensures,
+      at-quantise3 .quantise3 .ensures,
+      at-new2 .new2 .ensures,
+      at-quantise2 .quantise2 .ensures,
+      at-new .new .ensures,
+      at-quantise .quantise .ensures,
+      at-clamp2 .clamp2 .ensures,
+      at-clamp .clamp .ensures,
+      at-one-pole3 .one-pole3 .ensures,
+      at-one-pole2 .one-pole2 .ensures,
+      at-one-pole .one-pole .ensures,
+      at-note-to-frequency .note-to-frequency .ensures,
+    )
 
 pub set-up-spec : {M : Type 1} → statement M
 set-up-spec =

@@ -1,6 +1,7 @@
 -- `wavetable_engine::frames::cutoff` meets its contract.
 use lib.Ieee.{ofBits}
 use borrow.Author.Needs.{needs}
+use Rattle.oscillator.proofs.Sizes.{period-float}
 use Rattle.wavetable_engine.specs.Wavetable.{cutoffOf}
 use Rattle.words.specs.Binary32.{decimal}
 use Rattle.wavetable_engine.proofs.frames.cutoff.Statement.{statement}
@@ -11,7 +12,7 @@ min-requires c κs = search needs
 
 returns : tie.Need-returns
 unfolding cutoffOf ofBits decimal
-returns c = rw (c .min .ensures)
+returns c = rw (period-float, c .min .ensures)
 
 pub cutoff-spec : {M : Type 1} → statement M
 cutoff-spec = tie.close (tie.spec min-requires returns)

@@ -52,8 +52,14 @@ loop-less c = search needs
 loop-again : tie.Need-loop-again Inv-loop μ-loop
 loop-again c =
     let l = c .before .before .before .before .before .before .before .before .loop in
-    rw (c .before .before .gain .ensures, c .before .before .before .process .ensures, c .before .before .before .before .before .cutoff .ensures, c .before .before .before .before .before .before .next .ensures)
-    (omega arith, (length-set (l .samples) (l .i) _ ∙ l .inv .1 .0, goes-on _ _ (l .samples) (record { «diff_out» = l .d; f0 = l .f }) (l .i) (omega arith) (l .inv .1 .1)))
+    let gain = c .before .before .gain .ensures in
+    let process = c .before .before .before .process .ensures in
+    let cutoff = c .before .before .before .before .before .cutoff .ensures in
+    let next = c .before .before .before .before .before .before .next .ensures in
+    rw (gain, process, cutoff, next) (
+      omega arith,
+      (length-set (l .samples) (l .i) _ ∙ l .inv .1 .0, goes-on _ _ (l .samples) (record { «diff_out» = l .d; f0 = l .f }) (l .i) (omega arith) (l .inv .1 .1)),
+    )
 
 same-length : tie.Need-same-length Inv-loop μ-loop
 same-length c = search needs

@@ -30,7 +30,24 @@ one-pole-requires-3 c κs = search needs
 
 returns : tie.Need-returns
 unfolding moved
-returns c = rw (c .one-pole3 .ensures, c .before .one-pole2 .ensures, c .before .before .one-pole .ensures, c .before .before .before .advance .ensures, c .before .before .before .before .next4 .ensures, c .before .before .before .before .before .next3 .ensures, c .before .before .before .before .before .before .next2 .ensures, c .before .before .before .before .before .before .before .next .ensures)
+returns c =
+    let at-one-pole2 = c .before in
+    let at-one-pole = at-one-pole2 .before in
+    let at-advance = at-one-pole .before in
+    let at-next4 = at-advance .before in
+    let at-next3 = at-next4 .before in
+    let at-next2 = at-next3 .before in
+    let at-next = at-next2 .before in
+    rw (
+      c .one-pole3 .ensures,
+      at-one-pole2 .one-pole2 .ensures,
+      at-one-pole .one-pole .ensures,
+      at-advance .advance .ensures,
+      at-next4 .next4 .ensures,
+      at-next3 .next3 .ensures,
+      at-next2 .next2 .ensures,
+      at-next .next .ensures,
+    )
 
 pub next-spec : {M : Type 1} → statement M
 next-spec =

@@ -1,6 +1,7 @@
 -- `wavetable_engine::frames::parts_of` meets its contract.
 use lib.Ieee.{ofBits}
 use borrow.Author.Needs.{needs}
+use Rattle.oscillator.proofs.Sizes.{period-float}
 use Rattle.wavetable_engine.specs.Wavetable.{partsOf}
 use Rattle.words.specs.Binary32.{decimal}
 use Rattle.wavetable_engine.proofs.frames.parts_of.Statement.{statement}
@@ -20,7 +21,9 @@ held-part-requires-4 c κs = search needs
 
 returns : tie.Need-returns
 unfolding partsOf ofBits decimal
-returns c = cc
+returns c =
+    let at-z = c .before .before in
+    rw (period-float, c .held-part4 .ensures, at-z .held-part3 .ensures, at-z .before .held-part2 .ensures, at-z .before .before .held-part .ensures)
 
 pub parts-of-spec : {M : Type 1} → statement M
 parts-of-spec =

@@ -1,20 +1,39 @@
 -- The walk's loop, by the law that a walk goes on (Walking).
 use borrow.Author.Needs.{needs}
 use native.Mathlib.Omega.{arith}
-use Prim.Native.Nat.{_≤_, _-_}
-use Rattle.wavetable_engine.proofs.Walking.{Walking, begins, goes-on, ends, parts-fit, held-most}
+use Prim.Native.Nat.{ℕ, _≤_, _-_}
+use mathlib.Core.List.{List}
+use lib.Ieee.{Float}
+use Rattle.utils.specs.Rendered.{mostFrames}
+use Rattle.utils.proofs.Sums.{most-more, most-plus}
+use Rattle.wavetable_engine.proofs.Walking.{Lists, Walking, begins, goes-on, ends, parts-fit, frame-most}
 use Rattle.wavetable_engine.proofs.frames.walk.Statement.{statement}
 use Rattle.wavetable_engine.proofs.frames.walk.Tie as tie
 
+abbrev lists : List ℕ → List Float → List Float → List Float → List Float → Lists
+lists keys xs ys zs phases = record { keys = keys; xs = xs; ys = ys; zs = zs; phases = phases }
+
 abbrev Inv-loop : tie.InvT-loop
-Inv-loop lp-coefficient size keys₀ xs₀ ys₀ zs₀ phases₀ s₀ count₀ i₀ keys xs ys zs phases s count i =
-    (i ≤ size) × Walking lp-coefficient s₀ size keys₀ xs₀ ys₀ zs₀ phases₀ keys xs ys zs phases s count i
+Inv-loop lp-coefficient size keys₀ xs₀ ys₀ zs₀ phases₀ s₀ holds₀ i₀ keys xs ys zs phases s holds i =
+    (size ≤ mostFrames)
+    × ((i ≤ size) × Walking lp-coefficient s₀ size (lists keys₀ xs₀ ys₀ zs₀ phases₀) (lists keys xs ys zs phases) s holds i)
 
 abbrev μ-loop : tie.MeasureT-loop
-μ-loop lp-coefficient size keys₀ xs₀ ys₀ zs₀ phases₀ s₀ count₀ i₀ keys xs ys zs phases s count i = size - i
+μ-loop lp-coefficient size keys₀ xs₀ ys₀ zs₀ phases₀ s₀ holds₀ i₀ keys xs ys zs phases s holds i = size - i
 
 loop-holds : tie.Need-loop-holds Inv-loop μ-loop
-loop-holds c = (search needs, begins _ _ _ _ _ _ _ _ (record { few-frames = search needs; keys-room = search needs; xs-room = search needs; ys-room = search needs; zs-room = search needs; phases-room = search needs }))
+loop-holds c = (
+  search needs,
+  (
+    search needs,
+    rw (c .none .ensures)
+        (begins _ _ _ _
+        (record { keys-room = search needs; xs-room = search needs; ys-room = search needs; zs-room = search needs; phases-room = search needs })),
+  ),
+)
+
+none-requires : tie.Need-none-requires Inv-loop μ-loop
+none-requires c κs = search needs
 
 next-requires : tie.Need-next-requires Inv-loop μ-loop
 next-requires c κs = search needs
@@ -58,8 +77,10 @@ slice-write-phases c = search needs
 held-requires : tie.Need-held-requires Inv-loop μ-loop
 held-requires c κs = search needs
 
-add-count : tie.Need-add-count Inv-loop μ-loop
-add-count c = omega (arith, c .held .ensures, held-most (c .before .before .parts-of .result))
+plus-requires : tie.Need-plus-requires Inv-loop μ-loop
+plus-requires c κs =
+    let inv = c .before .before .before .before .before .loop .inv in
+    rw (c .held .ensures) (most-more (omega (arith, inv .0, inv .1 .0)) (most-plus (inv .1 .1 .few) (frame-most (c .before .before .parts-of .result))))
 
 add-i : tie.Need-add-i Inv-loop μ-loop
 add-i c = search needs
@@ -69,10 +90,10 @@ loop-less c = search needs
 
 loop-again : tie.Need-loop-again Inv-loop μ-loop
 loop-again c =
-    let l = c .before .before .before .before .before .loop in
-    let taken = c .before .before .before .before .loop-test .taken in
-    rw (c .held .ensures, c .before .key .ensures, c .before .before .parts-of .ensures, c .before .before .before .next .ensures)
-    (omega arith, goes-on _ _ _ _ _ _ _ _ (l .keys) (l .xs) (l .ys) (l .zs) (l .phases) (l .s) (l .count) (l .i) taken (l .inv .1))
+    let l = c .before .before .before .before .before .before .loop in
+    let taken = c .before .before .before .before .before .loop-test .taken in
+    rw (c .plus .ensures, c .before .held .ensures, c .before .before .key .ensures, c .before .before .before .parts-of .ensures, c .before .before .before .before .next .ensures)
+    (l .inv .0, (omega arith, goes-on _ _ _ _ (lists (l .keys) (l .xs) (l .ys) (l .zs) (l .phases)) (l .s) (l .holds) (l .i) taken (l .inv .1 .1)))
 
 same-length : tie.Need-same-length Inv-loop μ-loop
 same-length c = search needs
@@ -92,7 +113,7 @@ same-length-5 c = search needs
 returns : tie.Need-returns Inv-loop μ-loop
 returns c =
     let l = c .before .loop in
-    ends _ _ _ _ _ _ _ _ (l .keys) (l .xs) (l .ys) (l .zs) (l .phases) (l .s) (l .count) (l .i) (omega arith) (l .inv .1)
+    ends _ _ _ _ (lists (l .keys) (l .xs) (l .ys) (l .zs) (l .phases)) (l .s) (l .holds) (l .i) (omega arith) (l .inv .1 .1)
 
 pub walk-spec : {M : Type 1} → statement M
 walk-spec =
@@ -100,6 +121,7 @@ walk-spec =
     (tie.spec
     Inv-loop
     μ-loop
+    none-requires
     loop-holds
     next-requires
     parts-of-requires
@@ -115,7 +137,7 @@ walk-spec =
     mul-phases
     slice-write-phases
     held-requires
-    add-count
+    plus-requires
     add-i
     loop-less
     loop-again

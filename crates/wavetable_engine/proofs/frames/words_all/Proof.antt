@@ -60,8 +60,17 @@ loop-less c = search needs
 loop-again : tie.Need-loop-again Inv-loop μ-loop
 loop-again c =
     let l = c .before .before .before .before .before .loop in
-    rw (c .to-word2 .ensures, c .before .lofi .ensures, c .before .before .to-word .ensures)
-    (omega arith, (length-set (l .out) (l .i) _ ∙ l .inv .1 .0, (length-set (l .aux) (l .i) _ ∙ l .inv .1 .1 .0, (filled-more _ _ (l .out) (l .i) _ (omega arith) refl (l .inv .1 .1 .1 .0), filled-more _ _ (l .aux) (l .i) _ (omega arith) refl (l .inv .1 .1 .1 .1)))))
+    let done = l .inv .1 .1 .1 in
+    rw (c .to-word2 .ensures, c .before .lofi .ensures, c .before .before .to-word .ensures) (
+      omega arith,
+      (
+        length-set (l .out) (l .i) _ ∙ l .inv .1 .0,
+        (
+          length-set (l .aux) (l .i) _ ∙ l .inv .1 .1 .0,
+          (filled-more _ _ (l .out) (l .i) _ (omega arith) refl (done .0), filled-more _ _ (l .aux) (l .i) _ (omega arith) refl (done .1)),
+        ),
+      ),
+    )
 
 same-length : tie.Need-same-length Inv-loop μ-loop
 same-length c = search needs

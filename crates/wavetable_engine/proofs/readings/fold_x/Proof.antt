@@ -88,7 +88,11 @@ mix-requires-4 : tie.Need-mix-requires-4
 mix-requires-4 c κs = search needs
 
 returns : tie.Need-returns
-returns c = rw (c .mix4 .ensures, c .before .before .before .mix3 .ensures, c .before .before .before .before .before .before .mix2 .ensures, c .before .before .before .before .before .before .before .before .before .mix .ensures)
+returns c =
+    let at-mix3 = c .before .before .before in
+    let at-mix2 = at-mix3 .before .before .before in
+    let at-mix = at-mix2 .before .before .before in
+    rw (c .mix4 .ensures, at-mix3 .mix3 .ensures, at-mix2 .mix2 .ensures, at-mix .mix .ensures)
 
 pub fold-x-spec : {M : Type 1} → statement M
 fold-x-spec =

@@ -43,7 +43,23 @@ mul-t11 c = search needs
 
 returns : tie.Need-returns
 unfolding placesOfLevel
-returns c = rw (c .further3 .ensures, c .before .along-x2 .ensures, c .before .before .further2 .ensures, c .before .before .before .along-x .ensures, c .before .before .before .before .further .ensures, c .before .before .before .before .before .along-y .ensures, c .before .before .before .before .before .before .wave .ensures) (simp (wave-along-y, wave-along-x))
+returns c =
+    let at-along-x2 = c .before in
+    let at-further2 = at-along-x2 .before in
+    let at-along-x = at-further2 .before in
+    let at-further = at-along-x .before in
+    let at-along-y = at-further .before in
+    let at-wave = at-along-y .before in
+    rw (
+      c .further3 .ensures,
+      at-along-x2 .along-x2 .ensures,
+      at-further2 .further2 .ensures,
+      at-along-x .along-x .ensures,
+      at-further .further .ensures,
+      at-along-y .along-y .ensures,
+      at-wave .wave .ensures,
+    )
+    (simp (wave-along-y, wave-along-x))
 
 pub level-at-spec : {M : Type 1} → statement M
 level-at-spec =

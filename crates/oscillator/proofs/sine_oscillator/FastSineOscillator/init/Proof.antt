@@ -1,3 +1,4 @@
+-- The fresh path: its literals are the definition's.
 use mathlib.Core.Path.{refl}
 use lib.Ieee.{ofBits}
 use Rattle.words.specs.Binary32.{decimal}

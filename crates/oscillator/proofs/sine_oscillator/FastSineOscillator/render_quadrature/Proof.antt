@@ -1,12 +1,6 @@
 -- The quadrature from its start, by what its start and its loop ensure.
-use mathlib.Core.Path.{ap, _∙_}
-use Rattle.utils.specs.Frames.{eachOf}
-use Rattle.oscillator.specs.Path.{
-  quadratureNext,
-  quadratureOut,
-  quadratureOut2,
-  pathAfter,
-}
+use mathlib.Core.Path.{_∙_}
+use Rattle.oscillator.specs.Path.{pathAfter}
 use borrow.Author.Needs.{needs}
 use Rattle.oscillator.proofs.sine_oscillator.FastSineOscillator.render_quadrature.Statement.{
   statement,
@@ -22,12 +16,11 @@ fill-requires c κs = search needs
 returns : tie.Need-returns
 unfolding pathAfter
 returns c =
-    let n = c .before .before .before .before .args .n in
     let start = c .before .before .before .new .ensures in (
       rw (c .fill .ensures .0, start),
       (
-        c .fill .ensures .1 .0 ∙ ap (eachOf quadratureNext quadratureOut n) start,
-        c .fill .ensures .1 .1 ∙ ap (eachOf quadratureNext quadratureOut2 n) start,
+        c .fill .ensures .1 .0 ∙ rw start,
+        c .fill .ensures .1 .1 ∙ rw start,
       ),
     )
 

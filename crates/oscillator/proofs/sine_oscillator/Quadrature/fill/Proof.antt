@@ -8,7 +8,8 @@ use Rattle.words.specs.Binary32.{_⊗_}
 use Rattle.utils.specs.Frames.{stateAfter}
 use Rattle.oscillator.specs.declared.sine_oscillator.Quadrature.{Quadrature}
 use Rattle.oscillator.specs.Path.{quadratureNext, quadratureOut, quadratureOut2}
-use Rattle.oscillator.proofs.Runs.{after-more, Filling, filling-none, filling-more, filled-run}
+use Rattle.utils.proofs.Frames.{after-more}
+use Rattle.oscillator.proofs.Runs.{Filling, filling-none, filling-more, filled-run}
 use Rattle.oscillator.proofs.sine_oscillator.Quadrature.fill.Statement.{statement}
 use Rattle.oscillator.proofs.sine_oscillator.Quadrature.fill.Tie as tie
 
@@ -75,8 +76,8 @@ returns c =
     let e : c .before .loop .i ≡ a .n = omega arith in (
       inv .1 .0 ∙ ap (λ (k : ℕ). stateAfter quadratureNext k (a .self)) e,
       (
-        filled-run quadratureNext quadratureOut nan _ _ _ (rw e at (inv .1 .1 .0 .filled)),
-        filled-run quadratureNext quadratureOut2 nan _ _ _ (rw e at (inv .1 .1 .1 .filled)),
+        filled-run quadratureNext quadratureOut nan _ _ _ _ (rw e at (inv .1 .1 .0)),
+        filled-run quadratureNext quadratureOut2 nan _ _ _ _ (rw e at (inv .1 .1 .1)),
       ),
     )
 

@@ -1,3 +1,4 @@
+-- The start of the quadrature, by what each helper ensures.
 use Rattle.oscillator.specs.Path.{quadratureOf}
 use borrow.Author.Needs.{needs}
 use Rattle.oscillator.proofs.sine_oscillator.Quadrature.new.Statement.{statement}
@@ -26,7 +27,22 @@ on-circle-requires-2 c κs = search needs
 
 returns : tie.Need-returns
 unfolding quadratureOf
-returns c = rw (c .on-circle2 .ensures, c .before .on-circle .ensures, c .before .before .new2 .ensures, c .before .before .before .new .ensures, c .before .before .before .before .fast-2-sin .ensures, c .before .before .before .before .before .limited-amplitude .ensures, c .before .before .before .before .before .before .limited-frequency .ensures)
+returns c =
+    let at-on-circle = c .before in
+    let at-new2 = at-on-circle .before in
+    let at-new = at-new2 .before in
+    let at-fast-2-sin = at-new .before in
+    let at-limited-amplitude = at-fast-2-sin .before in
+    let at-limited-frequency = at-limited-amplitude .before in
+    rw (
+      c .on-circle2 .ensures,
+      at-on-circle .on-circle .ensures,
+      at-new2 .new2 .ensures,
+      at-new .new .ensures,
+      at-fast-2-sin .fast-2-sin .ensures,
+      at-limited-amplitude .limited-amplitude .ensures,
+      at-limited-frequency .limited-frequency .ensures,
+    )
 
 pub new-spec : {M : Type 1} → statement M
 new-spec =

@@ -1,3 +1,4 @@
+-- A step of the quadrature, by the steps of its two interpolators.
 use borrow.Author.Needs.{needs}
 use Rattle.oscillator.proofs.sine_oscillator.Quadrature.next.Statement.{statement}
 use Rattle.oscillator.proofs.sine_oscillator.Quadrature.next.Tie as tie

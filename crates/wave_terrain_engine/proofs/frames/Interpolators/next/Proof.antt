@@ -1,3 +1,4 @@
+-- A step of both interpolators.
 use borrow.Author.Needs.{needs}
 use Rattle.wave_terrain_engine.proofs.frames.Interpolators.next.Statement.{statement}
 use Rattle.wave_terrain_engine.proofs.frames.Interpolators.next.Tie as tie

@@ -1,0 +1,243 @@
+// Calls the C functions by position, each with arguments that are all different, and prints what they return, what they write to `first` and
+// `second`, and every lent word. A contract speaks of a parameter by its name, C binds it by its place: two parameters that change places show here.
+ghost use mathlib.Core.Path.{_≡_};
+ghost use lib.ListN.{length};
+use libc::STDOUT_FILENO;
+
+// What stands in a result before a call writes it.
+const UNWRITTEN: u64 = 77;
+
+fn print(text: &[u8]) {
+    io::write_all(STDOUT_FILENO, text);
+}
+
+fn print_number(n: u64) {
+    print(b" ");
+    io::print_decimal(STDOUT_FILENO, n);
+}
+
+// What a call returned and wrote to its two results.
+fn print_values(call: &[u8], number: u32, first: u64, second: u64) {
+    print(call);
+    print_number(number as u64);
+    print_number(first);
+    print_number(second);
+    print(b"\n");
+}
+
+fn print_word(w: u32) {
+    print_number(w as u64);
+}
+
+// Every word of a buffer.
+fn print_words(name: &[u8], words: &[u32]) {
+    print(name);
+    let mut i = 0;
+    while i < words.len() {
+        print_word(words[i]);
+        i += 1;
+    }
+    print(b"\n");
+}
+
+fn print_take(out: &[u32], aux: &[u32], kept: &[u32]) {
+    print_words(b"out", out);
+    print_words(b"aux", aux);
+    print_words(b"kept", kept);
+}
+
+// A bank whose samples go up and down.
+fn fill_bank(bank: &mut [i16])
+    requires { ⌜ length (now bank) ≡ 25344 ⌝ }
+{
+    let mut i = 0;
+    while i < bank.len() {
+        bank[i] = (i * 7919 % 32749) as i16;
+        i += 1;
+    }
+}
+
+fn read(text: &[u8], rows: &mut [u32]) {
+    let mut first = UNWRITTEN;
+    let mut second = UNWRITTEN;
+    let number = retake_c::retake_read_score(text, rows, &mut first, &mut second);
+    print_values(b"read", number, first, second);
+    print_words(b"rows", rows);
+}
+
+fn render(
+    instrument: u32,
+    rate: u32,
+    frames: u32,
+    bank: &[i16],
+    map: &[u8],
+    rows: &[u32],
+    out: &mut [u32],
+    aux: &mut [u32],
+    kept: &mut [u32],
+) {
+    let mut first = UNWRITTEN;
+    let mut second = UNWRITTEN;
+    let number = retake_c::retake_render(
+        instrument,
+        rate,
+        frames,
+        bank,
+        map,
+        rows,
+        out,
+        aux,
+        kept,
+        &mut first,
+        &mut second,
+    );
+    print_values(b"render", number, first, second);
+    print_take(out, aux, kept);
+}
+
+fn edit(
+    instrument: u32,
+    rate: u32,
+    frames: u32,
+    bank: &[i16],
+    map: &[u8],
+    rows: &mut [u32],
+    position: u64,
+    row: [u32; 5],
+    out: &mut [u32],
+    aux: &mut [u32],
+    kept: &mut [u32],
+) {
+    let mut first = UNWRITTEN;
+    let mut second = UNWRITTEN;
+    let number = retake_c::retake_edit(
+        instrument,
+        rate,
+        frames,
+        bank,
+        map,
+        rows,
+        position,
+        row[0],
+        row[1],
+        row[2],
+        row[3],
+        row[4],
+        out,
+        aux,
+        kept,
+        &mut first,
+        &mut second,
+    );
+    print_values(b"edit", number, first, second);
+    print_words(b"rows", rows);
+    print_take(out, aux, kept);
+}
+
+// The score of the text below, as row words.
+const SCORE: [u32; 15] = [
+    0x42700000,
+    0x3e99999a,
+    0x3dcccccd,
+    0x3f19999a,
+    0,
+    0x42400000,
+    0x3f59999a,
+    0x3f4ccccd,
+    0x3e19999a,
+    1,
+    0x427c0000,
+    0x3f266666,
+    0x3e4ccccd,
+    0x3ecccccd,
+    0,
+];
+
+// The score rendered and then edited: an accepted edit, one past the end, one outside a limit.
+fn play(instrument: u32, rate: u32, bank: &[i16], map: &[u8], row: [u32; 5]) {
+    let mut rows = SCORE;
+    let mut out = [1; 12];
+    let mut aux = [2; 12];
+    let mut kept = [3; 39];
+    render(
+        instrument,
+        rate,
+        4,
+        bank,
+        map,
+        &rows,
+        &mut out,
+        &mut aux,
+        &mut kept,
+    );
+    edit(
+        instrument,
+        rate,
+        4,
+        bank,
+        map,
+        &mut rows,
+        1,
+        row,
+        &mut out,
+        &mut aux,
+        &mut kept,
+    );
+    edit(
+        instrument,
+        rate,
+        4,
+        bank,
+        map,
+        &mut rows,
+        5,
+        row,
+        &mut out,
+        &mut aux,
+        &mut kept,
+    );
+    let loud = [row[0], row[1], row[2], 0x3f800001, row[4]];
+    edit(
+        instrument,
+        rate,
+        4,
+        bank,
+        map,
+        &mut rows,
+        2,
+        loud,
+        &mut out,
+        &mut aux,
+        &mut kept,
+    );
+}
+
+fn read_texts() {
+    let mut rows = [0xffffffff; 16];
+    read(
+        b"harmonics restart note morph timbre
+3f19999a 00000000 42700000 3dcccccd 3e99999a
+3e19999a 00000001 42400000 3f4ccccd 3f59999a
+3ecccccd 00000000 427c0000 3e4ccccd 3f266666
+",
+        &mut rows,
+    );
+    read(
+        b"note timbre morph harmonics restart
+42700000 00000000 3f000000 3f800000 00000000
+42700000 00000000 3f000000 3f800000 00000002
+",
+        &mut rows,
+    );
+}
+
+fn main() {
+    read_texts();
+    let mut bank = [0i16; 25344];
+    fill_bank(&mut bank);
+    let map = [90u8; 4096];
+    let row = [0x42600000, 0x3f400000, 0x3e800000, 0x3f000000, 1];
+    play(0, 48000, &bank, &map[..0], row);
+    let row = [0x42500000, 0x3f100000, 0x3ec00000, 0x3f700000, 0];
+    play(2, 44100, &bank, &map, row);
+}

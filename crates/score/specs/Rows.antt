@@ -1,0 +1,47 @@
+-- Document 01, "Rows, states, retakes": a score's rows, as words one row after the other.
+use Prim.Native.Nat.{ℕ, _*_}
+use mathlib.Core.Bool.{Bool}
+use mathlib.Core.List.{List, [], _∷_}
+use lib.ListN.{getD}
+use lib.Dec.{eqb}
+use Rattle.words.specs.Lists.{part, put}
+
+-- "A row is five words."
+abbrev pub rowWords : ℕ
+rowWords = 5
+
+-- 6: "rows 0 or above 4,096"
+abbrev pub mostRows : ℕ
+mostRows = 4096
+
+-- "note, timbre, morph, harmonics, restart"
+pub data Name : Type 0 where
+  note timbre morph harmonics restart : Name
+
+-- The names in row order.
+abbrev pub rowNames : List Name
+rowNames = note ∷ timbre ∷ morph ∷ harmonics ∷ restart ∷ []
+
+-- Where a name's word stands in a row.
+abbrev pub place : Name → ℕ
+place note = 0
+place timbre = 1
+place morph = 2
+place harmonics = 3
+place restart = 4
+
+-- The word of a name in a row.
+abbrev pub wordFor : Name → List ℕ → ℕ
+wordFor name row = getD row (place name) 0
+
+-- The words of row i.
+abbrev pub rowAt : List ℕ → ℕ → List ℕ
+rowAt rows i = part rowWords rows i
+
+-- "An edit replaces row k of the lent row words."
+abbrev pub putRow : List ℕ → ℕ → List ℕ → List ℕ
+putRow rows k row = put rows (k * rowWords) row
+
+-- "each row with restart 1"
+abbrev pub restarts : List ℕ → Bool
+restarts row = eqb (wordFor restart row) 1

@@ -1,0 +1,220 @@
+//! The library's functions over lent buffers.
+
+use crate::refusal::Refusal;
+use crate::row::{Column, Row};
+use crate::{BANK, KEPT_WORDS, MAP, sys};
+
+/// The voice that plays a score.
+#[derive(Debug, Clone, Copy, PartialEq, Eq)]
+#[non_exhaustive]
+pub enum Instrument<'a> {
+    /// The wavetable voice.
+    Wavetable,
+    /// The wave terrain voice.
+    Terrain,
+    /// The wave terrain voice, with a map as its last layer.
+    TerrainWithMap(&'a [u8; MAP]),
+}
+
+impl<'a> Instrument<'a> {
+    fn number(self) -> u32 {
+        match self {
+            Instrument::Wavetable => 0,
+            Instrument::Terrain => 1,
+            Instrument::TerrainWithMap(_) => 2,
+        }
+    }
+
+    fn map(self) -> &'a [u8] {
+        match self {
+            Instrument::TerrainWithMap(map) => map,
+            _ => &[],
+        }
+    }
+}
+
+/// What stays the same from call to call of one take.
+#[derive(Debug, Clone, Copy)]
+pub struct Setup<'a> {
+    /// The voice.
+    pub instrument: Instrument<'a>,
+    /// Samples a second, 32,000 to 192,000.
+    pub rate: u32,
+    /// Frames of each row's block, 1 to 128.
+    pub frames: u32,
+    /// The bank: 192 integrated waves of 132 samples.
+    pub bank: &'a [i16; BANK],
+}
+
+/// Out and aux samples and the words kept after each row, as the plain functions are lent them. The
+/// word of a sample is its binary32 pattern: [`samples`] shows them as floats.
+#[derive(Debug, Clone, PartialEq, Eq)]
+pub struct Take {
+    /// The words of out, one block for each row.
+    pub out: Vec<u32>,
+    /// The words of aux, one block for each row.
+    pub aux: Vec<u32>,
+    /// The words kept, [`KEPT_WORDS`] for each row.
+    pub kept: Vec<u32>,
+}
+
+impl Take {
+    /// A take with room for this many rows, all zero.
+    pub fn new(rows: usize, frames: u32) -> Take {
+        let samples = rows * frames as usize;
+        Take { out: vec![0; samples], aux: vec![0; samples], kept: vec![0; rows * KEPT_WORDS] }
+    }
+}
+
+/// An accepted rendering or edit.
+#[derive(Debug, Clone, Copy, PartialEq, Eq)]
+#[non_exhaustive]
+pub struct Report {
+    /// Rows rendered.
+    pub rows: usize,
+    /// How often a position was held at its top in these rows.
+    pub held: u64,
+}
+
+/// Words as samples: the same 32 bits of each.
+pub fn samples(words: &[u32]) -> &[f32] {
+    // SAFETY: f32 has the size and the alignment of u32, and every pattern of 32 bits is one.
+    unsafe { std::slice::from_raw_parts(words.as_ptr().cast(), words.len()) }
+}
+
+/// Runs a C function, whose last two parameters it is handed, and reads its answer.
+fn answer(call: impl FnOnce(*mut u64, *mut u64) -> u32) -> Result<(u64, u64), Refusal> {
+    let (mut first, mut second) = (0, 0);
+    match call(&mut first, &mut second) {
+        0 => Ok((first, second)),
+        number => Err(Refusal::new(number, first)),
+    }
+}
+
+/// The words of row k of a score.
+fn row_words(rows: &[u32], k: usize) -> Option<Vec<u32>> {
+    rows.chunks(Row::WORDS).nth(k).map(<[u32]>::to_vec)
+}
+
+/// The words of row k of a text whose names and line k are as they should be, in the order of a row.
+fn text_row(text: &[u8], k: usize) -> Option<Vec<u32>> {
+    let text = std::str::from_utf8(text).ok()?;
+    let mut lines = text.lines();
+    let names: Vec<&str> = lines.next()?.split(' ').collect();
+    let values: Vec<&str> = lines.nth(k)?.split(' ').collect();
+    let value = |column: Column| {
+        let at = names.iter().position(|name| *name == column.name())?;
+        u32::from_str_radix(values.get(at)?, 16).ok()
+    };
+    Column::ALL.into_iter().map(value).collect()
+}
+
+/// Reads a score's text into lent row words and returns its row count. Words past the score keep what
+/// they had.
+///
+/// ```
+/// use wohketa_retake::{Row, read_score};
+///
+/// let mut rows = [7; 6];
+/// let text = b"timbre note morph harmonics restart\n3f000000 42700000 00000000 00000000 00000001\n";
+/// assert_eq!(read_score(text, &mut rows), Ok(1));
+/// assert_eq!(rows, [0x42700000, 0x3f000000, 0, 0, 1, 7]);
+///
+/// let text = b"timbre note morph harmonics restart\n3f000000 42700000 00000000 40000000 00000001\n";
+/// let refusal = read_score(text, &mut rows).unwrap_err();
+/// assert_eq!(refusal.to_string(), "row 0: harmonics is not from 0 to 1 (number 9)");
+/// ```
+pub fn read_score(text: &[u8], rows: &mut [u32]) -> Result<usize, Refusal> {
+    // SAFETY: each pointer goes with its slice's length, and nothing else refers to what is written.
+    let (count, _) = answer(|first, second| unsafe {
+        sys::retake_read_score(text.as_ptr(), text.len(), rows.as_mut_ptr(), rows.len(), first, second)
+    })
+    .map_err(|refusal| refusal.in_row(|k| text_row(text, k)))?;
+    Ok(count as usize)
+}
+
+/// Renders a whole score into a take.
+///
+/// ```
+/// use wohketa_retake::{BANK, Instrument, Row, Setup, Take, edit, render, samples};
+///
+/// let bank: [i16; BANK] = std::array::from_fn(|i| (i % 132) as i16 * 100);
+/// let setup = Setup { instrument: Instrument::Terrain, rate: 48_000, frames: 24, bank: &bank };
+/// let row = Row { morph: 0.5, ..Row::default() };
+/// let mut rows = [row.words(), row.words()].concat();
+/// let mut take = Take::new(2, setup.frames);
+/// assert_eq!(render(&setup, &rows, &mut take)?.rows, 2);
+///
+/// let loud = samples(&take.out)[47];
+/// assert_eq!(edit(&setup, &mut rows, 1, Row { note: 72.0, ..row }, &mut take)?.rows, 1);
+/// assert_ne!(samples(&take.out)[47], loud);
+/// # Ok::<(), wohketa_retake::Refusal>(())
+/// ```
+pub fn render(setup: &Setup, rows: &[u32], take: &mut Take) -> Result<Report, Refusal> {
+    let map = setup.instrument.map();
+    // SAFETY: as in `read_score`.
+    let (rendered, held) = answer(|first, second| unsafe {
+        sys::retake_render(
+            setup.instrument.number(),
+            setup.rate,
+            setup.frames,
+            setup.bank.as_ptr(),
+            setup.bank.len(),
+            map.as_ptr(),
+            map.len(),
+            rows.as_ptr(),
+            rows.len(),
+            take.out.as_mut_ptr(),
+            take.out.len(),
+            take.aux.as_mut_ptr(),
+            take.aux.len(),
+            take.kept.as_mut_ptr(),
+            take.kept.len(),
+            first,
+            second,
+        )
+    })
+    .map_err(|refusal| refusal.in_row(|k| row_words(rows, k)))?;
+    Ok(Report { rows: rendered as usize, held })
+}
+
+/// Puts a row into the score and renders what depends on it.
+///
+/// The edit starts from the words that the take keeps, and ends where they stay the same: the take is
+/// a fresh rendering's after it if it was one before it, with the same setup. A [`Reel`](crate::Reel)
+/// sees to that.
+pub fn edit(setup: &Setup, rows: &mut [u32], position: usize, row: Row, take: &mut Take) -> Result<Report, Refusal> {
+    let map = setup.instrument.map();
+    let words = row.words();
+    let [note, timbre, morph, harmonics, restart] = words;
+    // SAFETY: as in `read_score`.
+    let (rendered, held) = answer(|first, second| unsafe {
+        sys::retake_edit(
+            setup.instrument.number(),
+            setup.rate,
+            setup.frames,
+            setup.bank.as_ptr(),
+            setup.bank.len(),
+            map.as_ptr(),
+            map.len(),
+            rows.as_mut_ptr(),
+            rows.len(),
+            position as u64,
+            note,
+            timbre,
+            morph,
+            harmonics,
+            restart,
+            take.out.as_mut_ptr(),
+            take.out.len(),
+            take.aux.as_mut_ptr(),
+            take.aux.len(),
+            take.kept.as_mut_ptr(),
+            take.kept.len(),
+            first,
+            second,
+        )
+    })
+    .map_err(|refusal| refusal.in_row(|k| if k == position { Some(words.to_vec()) } else { row_words(rows, k) }))?;
+    Ok(Report { rows: rendered as usize, held })
+}

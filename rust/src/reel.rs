@@ -1,0 +1,215 @@
+//! A score and the take that it plays, kept together.
+
+use std::fmt;
+use std::ops::Range;
+
+use crate::calls::{self, Instrument, Report, Setup, Take, samples};
+use crate::refusal::Refusal;
+use crate::row::Row;
+use crate::{BANK, KEPT_WORDS, MAP, MOST_FRAMES, MOST_ROWS};
+
+/// A voice, with a map of its own.
+#[derive(Clone)]
+enum Voice {
+    Wavetable,
+    Terrain,
+    TerrainWithMap(Box<[u8; MAP]>),
+}
+
+impl Voice {
+    fn of(instrument: Instrument) -> Voice {
+        match instrument {
+            Instrument::Wavetable => Voice::Wavetable,
+            Instrument::Terrain => Voice::Terrain,
+            Instrument::TerrainWithMap(map) => Voice::TerrainWithMap(Box::new(*map)),
+        }
+    }
+
+    fn instrument(&self) -> Instrument<'_> {
+        match self {
+            Voice::Wavetable => Instrument::Wavetable,
+            Voice::Terrain => Instrument::Terrain,
+            Voice::TerrainWithMap(map) => Instrument::TerrainWithMap(map),
+        }
+    }
+}
+
+/// One row's samples.
+#[derive(Debug, Clone, Copy, PartialEq)]
+pub struct Block<'a> {
+    /// The samples of out.
+    pub out: &'a [f32],
+    /// The samples of aux.
+    pub aux: &'a [f32],
+}
+
+/// An accepted edit of a reel.
+#[derive(Debug, Clone, PartialEq, Eq)]
+#[non_exhaustive]
+pub struct Edited {
+    /// The rows that were rendered; empty where the row had these words already.
+    pub rows: Range<usize>,
+    /// How often a position was held at its top in these rows.
+    pub held: u64,
+}
+
+/// A score and its take: always what a fresh rendering of the score plays, to the bit.
+///
+/// A reel owns its setup, score and take, and gives none of them out to be changed. So an edit always
+/// meets the take that was rendered from this score with this setup; safe code has no other way to it:
+///
+/// ```compile_fail,E0616
+/// # use wohketa_retake::{BANK, Instrument, Reel, Row, Setup};
+/// # let bank = [0; BANK];
+/// # let setup = Setup { instrument: Instrument::Wavetable, rate: 48_000, frames: 24, bank: &bank };
+/// # let mut reel = Reel::render(&setup, &[Row::default()]).unwrap();
+/// reel.rate = 44_100;
+/// ```
+#[derive(Clone)]
+pub struct Reel {
+    voice: Voice,
+    rate: u32,
+    frames: u32,
+    bank: Box<[i16; BANK]>,
+    rows: Vec<u32>,
+    take: Take,
+    rendering: Report,
+}
+
+impl Reel {
+    /// Renders a whole score.
+    pub fn render(setup: &Setup, rows: &[Row]) -> Result<Reel, Refusal> {
+        Reel::render_words(setup, rows.iter().flat_map(|row| row.words()).collect())
+    }
+
+    /// Renders a whole score, given as its row words.
+    pub fn render_words(setup: &Setup, rows: Vec<u32>) -> Result<Reel, Refusal> {
+        // Past these limits the call is refused before it looks at the take.
+        let count = (rows.len() / Row::WORDS).min(MOST_ROWS);
+        let mut take = Take::new(count, setup.frames.min(MOST_FRAMES));
+        let rendering = calls::render(setup, &rows, &mut take)?;
+        let voice = Voice::of(setup.instrument);
+        let bank = Box::new(*setup.bank);
+        Ok(Reel { voice, rate: setup.rate, frames: setup.frames, bank, rows, take, rendering })
+    }
+
+    /// Renders a whole score, given as its text.
+    ///
+    /// ```
+    /// use wohketa_retake::{BANK, Instrument, Reel, Setup};
+    ///
+    /// let bank = [0; BANK];
+    /// let setup = Setup { instrument: Instrument::Wavetable, rate: 48_000, frames: 24, bank: &bank };
+    /// let text = b"note timbre morph harmonics restart\n42700000 00000000 00000000 00000000 00000001\n";
+    /// let reel = Reel::render_text(&setup, text)?;
+    /// assert_eq!(reel.row(0).map(|row| row.note), Some(60.0));
+    ///
+    /// let refusal = Reel::render_text(&setup, b"note timbre\n").unwrap_err();
+    /// assert_eq!(refusal.to_string(), "the first line is not the five names, each once (number 10)");
+    /// # Ok::<(), wohketa_retake::Refusal>(())
+    /// ```
+    pub fn render_text(setup: &Setup, text: &[u8]) -> Result<Reel, Refusal> {
+        let mut rows = vec![0; MOST_ROWS * Row::WORDS];
+        let count = calls::read_score(text, &mut rows)?;
+        rows.truncate(count * Row::WORDS);
+        Reel::render_words(setup, rows)
+    }
+
+    /// Renders another whole score with this reel's setup in the place of the old one. A refused score
+    /// leaves the reel as it is.
+    pub fn replace(&mut self, rows: &[Row]) -> Result<Report, Refusal> {
+        *self = Reel::render(&self.setup(), rows)?;
+        Ok(self.rendering)
+    }
+
+    /// Puts a row into the score and renders what depends on it: from that row to just before the next
+    /// row that restarts, or whose state before it stays the same, or to the end. A refused edit leaves
+    /// the reel as it is.
+    pub fn edit(&mut self, position: usize, row: Row) -> Result<Edited, Refusal> {
+        let instrument = self.voice.instrument();
+        let setup = Setup { instrument, rate: self.rate, frames: self.frames, bank: &self.bank };
+        let report = calls::edit(&setup, &mut self.rows, position, row, &mut self.take)?;
+        Ok(Edited { rows: position..position + report.rows, held: report.held })
+    }
+
+    /// What the reel is rendered with.
+    pub fn setup(&self) -> Setup<'_> {
+        Setup { instrument: self.voice.instrument(), rate: self.rate, frames: self.frames, bank: &self.bank }
+    }
+
+    /// How many rows the score has.
+    pub fn count(&self) -> usize {
+        self.rows.len() / Row::WORDS
+    }
+
+    /// The score's rows.
+    pub fn rows(&self) -> impl Iterator<Item = Row> + '_ {
+        (0..self.count()).filter_map(|k| self.row(k))
+    }
+
+    /// Row k of the score.
+    pub fn row(&self, k: usize) -> Option<Row> {
+        let words = self.rows.chunks_exact(Row::WORDS).nth(k)?;
+        Row::from_words(words.try_into().ok()?)
+    }
+
+    /// The score's row words.
+    pub fn words(&self) -> &[u32] {
+        &self.rows
+    }
+
+    /// The samples of out, one block after the other.
+    pub fn out(&self) -> &[f32] {
+        samples(&self.take.out)
+    }
+
+    /// The samples of aux, one block after the other.
+    pub fn aux(&self) -> &[f32] {
+        samples(&self.take.aux)
+    }
+
+    /// The block of row k.
+    pub fn block(&self, k: usize) -> Option<Block<'_>> {
+        let frames = self.frames as usize;
+        let out = self.out().chunks_exact(frames).nth(k)?;
+        let aux = self.aux().chunks_exact(frames).nth(k)?;
+        Some(Block { out, aux })
+    }
+
+    /// The samples' places in out and aux that belong to rows, as those of [`Edited::rows`].
+    pub fn samples_of(&self, rows: Range<usize>) -> Range<usize> {
+        let frames = self.frames as usize;
+        rows.start * frames..rows.end * frames
+    }
+
+    /// The words kept after row k.
+    pub fn kept(&self, k: usize) -> Option<&[u32; KEPT_WORDS]> {
+        self.take.kept.chunks_exact(KEPT_WORDS).nth(k)?.try_into().ok()
+    }
+
+    /// The take's words.
+    pub fn take(&self) -> &Take {
+        &self.take
+    }
+
+    /// The report of the whole rendering that made the reel.
+    pub fn rendering(&self) -> Report {
+        self.rendering
+    }
+}
+
+impl fmt::Debug for Reel {
+    fn fmt(&self, f: &mut fmt::Formatter<'_>) -> fmt::Result {
+        let voice = match self.voice {
+            Voice::Wavetable => "Wavetable",
+            Voice::Terrain => "Terrain",
+            Voice::TerrainWithMap(_) => "TerrainWithMap",
+        };
+        f.debug_struct("Reel")
+            .field("voice", &voice)
+            .field("rate", &self.rate)
+            .field("frames", &self.frames)
+            .field("count", &self.count())
+            .finish_non_exhaustive()
+    }
+}
