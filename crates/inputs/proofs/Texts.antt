@@ -4,76 +4,75 @@ use mathlib.Core.Bool.{Bool, true, false, cond}
 use mathlib.Core.List.{List, _++_}
 use Prim.Native.Nat.{ℕ, _*_, _≤_}
 use native.Mathlib.Omega.{arith}
-use borrow.Author.Tests.{ltb-false}
+use borrow.Author.Tests.{eqb-true}
 use lib.Dec.{eqb, ltb, eqb→eq}
 use lib.ListN.{length, drop, length-replicate}
+use Rattle.score.specs.declared.refusal.Refusal.{Refusal}
 use Rattle.score.specs.declared.reader.ReadAnswer.{ReadAnswer}
-use Rattle.score.specs.Limits.{rowWords}
-use Rattle.score.specs.Numbers.{Result, success, refused, resultOf, spaceNumber}
-use Rattle.score.specs.Reading.{Outcome, outcome, refuse, store, testText, textRows, editNames, settleEdits, readOf, readEditsOf, editWords}
+use Rattle.score.specs.declared.reader.ReadAnswer.the-variants.{Read, Refused}
+use Rattle.score.specs.Rows.{rowWords}
+use Rattle.score.specs.Numbers.{refusal, bankNumber, spaceNumber}
+use Rattle.score.specs.Reading.{Outcome, outcome, refuse, testText, textRows, countNumber, settle, readText, scoreTable, editTable, readOf, readEditsOf, editWords}
 use Rattle.score.specs.Text.{linesOf}
-use Rattle.score.proofs.Accepted as reader
-use Rattle.take.specs.Take.{bankNumber}
+use Rattle.score.proofs.Accepted.{accepted-passes}
+use Rattle.score.proofs.Settling.{room}
 use Rattle.inputs.specs.declared.Inputs.{Inputs}
 use Rattle.inputs.specs.declared.Inputs.the-variants.{Taken, Turned}
 use Rattle.inputs.specs.Inputs.{mostText, mostRows, mostEdits, bankBytes, zeros, textOf, scoreText, editsText, inputsOf, TextsRead, Given}
 
-pub refused-not : {A : Type 0} (n place count : ℕ) → refused n place ≡ success count → A
-refused-not n place count h = let z : _≡_ {A = ℕ} 0 1 = cc in absurd (omega arith)
+pub refused-not : {A : Type 0} (r : Refusal) (count : ℕ) → Refused r ≡ Read count → A
+refused-not r count h = let z : _≡_ {A = ℕ} 0 1 = cc in absurd (omega arith)
 
 -- ---- words enough
 
-store-fits : (words count : ℕ) (rows lent : List ℕ) (n : ℕ) → store words count rows lent .result ≡ success n → words * n ≤ length lent
-unfolding store
-store-fits words count rows lent n h = pick (ltb (length lent) (words * count)) refl h
+settled-fits : (words : ℕ) (r : ReadAnswer) (rows lent : List ℕ) (n : ℕ) → settle false words r rows lent .answer ≡ Read n → words * n ≤ length lent
+unfolding settle
+settled-fits words (Refused r) rows lent n h = refused-not r n h
+settled-fits words (Read count) rows lent n h = pick (eqb number 0) refl h
   where
-    stored : Outcome
-    stored = record { result = success count; rows = rows ++ drop (words * count) lent }
+    number : ℕ
+    number = countNumber false words count (length lent)
 
-    pick : (b : Bool) → ltb (length lent) (words * count) ≡ b → cond b (refuse spaceNumber 0 lent) stored .result ≡ success n → words * n ≤ length lent
-    pick true e h = refused-not spaceNumber 0 n h
-    pick false e h = let m : count ≡ n = cc in rw (sym m) (omega (arith, ltb-false (length lent) (words * count) e))
+    pick : (b : Bool) → eqb number 0 ≡ b → cond b (outcome (Read count) (rows ++ drop (words * count) lent)) (refuse (refusal number 0) lent) .answer ≡ Read n
+        → words * n ≤ length lent
+    pick true e h = let m : count ≡ n = cc in rw (sym m) (room false words count (length lent) (eqb-true number 0 e))
+    pick false e h = refused-not (refusal number 0) n h
 
-edits-fit : (r : Result) (rows lent : List ℕ) (n : ℕ) → settleEdits r rows lent .result ≡ success n → editWords * n ≤ length lent
-unfolding settleEdits
-edits-fit (refused a place) rows lent n h = refused-not a place n h
-edits-fit (success count) rows lent n h = store-fits editWords count rows lent n h
+read-fits : (text lent : List ℕ) (n : ℕ) → readOf text lent .answer ≡ Read n → rowWords * n ≤ length lent
+read-fits text lent n h = accepted-passes text lent n h .space
 
-read-fits : (text lent : List ℕ) (n : ℕ) → readOf text lent .result ≡ success n → rowWords * n ≤ length lent
-read-fits text lent n h = reader.accepted text lent n h .space
+read-edits-fits : (text lent : List ℕ) (n : ℕ) → readEditsOf text lent .answer ≡ Read n → editWords * n ≤ length lent
+unfolding readEditsOf readText editTable scoreTable
+read-edits-fits text lent n h = settled-fits editWords (testText editTable false (linesOf text)) (textRows editTable (linesOf text)) lent n h
 
-read-edits-fits : (text lent : List ℕ) (n : ℕ) → readEditsOf text lent .result ≡ success n → editWords * n ≤ length lent
-unfolding readEditsOf
-read-edits-fits text lent n h = edits-fit (testText editNames false (linesOf text)) (textRows editNames (linesOf text)) lent n h
-
-text-fits : (read : List ℕ → List ℕ → Outcome) (words : ℕ) → ((text lent : List ℕ) (n : ℕ) → read text lent .result ≡ success n → words * n ≤ length lent)
-    → (text lent : List ℕ) (n : ℕ) → textOf read text lent .result ≡ success n → words * n ≤ length lent
+text-fits : (read : List ℕ → List ℕ → Outcome) (words : ℕ) → ((text lent : List ℕ) (n : ℕ) → read text lent .answer ≡ Read n → words * n ≤ length lent)
+    → (text lent : List ℕ) (n : ℕ) → textOf read text lent .answer ≡ Read n → words * n ≤ length lent
 unfolding textOf
 text-fits read words fits text lent n h = pick (ltb mostText (length text)) h
   where
-    pick : (b : Bool) → cond b (refuse spaceNumber 0 lent) (read text lent) .result ≡ success n → words * n ≤ length lent
-    pick true h = refused-not spaceNumber 0 n h
+    pick : (b : Bool) → cond b (refuse (refusal spaceNumber 0) lent) (read text lent) .answer ≡ Read n → words * n ≤ length lent
+    pick true h = refused-not (refusal spaceNumber 0) n h
     pick false h = fits text lent n h
 
 -- ---- inputs that are taken
 
-pub record Accepted (a b : Result) (bank n m : ℕ) : Type 0 where
-  pub score : a ≡ success n
-  pub edits : b ≡ success m
+pub record Accepted (a b : ReadAnswer) (bank n m : ℕ) : Type 0 where
+  pub score : a ≡ Read n
+  pub edits : b ≡ Read m
   pub bank-long : bank ≡ bankBytes
 
-turned-not : {A : Type 0} (n place k m : ℕ) → Turned n place ≡ Taken k m → A
-turned-not n place k m h = let z : _≡_ {A = ℕ} 0 1 = cc in absurd (omega arith)
+turned-not : {A : Type 0} (r : Refusal) (k m : ℕ) → Turned r ≡ Taken k m → A
+turned-not r k m h = let z : _≡_ {A = ℕ} 0 1 = cc in absurd (omega arith)
 
-pub accepted : (a b : Result) (bank n m : ℕ) → inputsOf a b bank ≡ Taken n m → Accepted a b bank n m
+pub accepted : (a b : ReadAnswer) (bank n m : ℕ) → inputsOf a b bank ≡ Taken n m → Accepted a b bank n m
 unfolding inputsOf
-accepted (refused k place) b bank n m h = turned-not k place n m h
-accepted (success r) (refused k place) bank n m h = turned-not k place n m h
-accepted (success r) (success e) bank n m h = pick (eqb bank bankBytes) refl h
+accepted (Refused r) b bank n m h = turned-not r n m h
+accepted (Read rows) (Refused r) bank n m h = turned-not r n m h
+accepted (Read rows) (Read edits) bank n m h = pick (eqb bank bankBytes) refl h
   where
-    pick : (c : Bool) → eqb bank bankBytes ≡ c → cond c (Taken r e) (Turned bankNumber 0) ≡ Taken n m → Accepted (success r) (success e) bank n m
+    pick : (c : Bool) → eqb bank bankBytes ≡ c → cond c (Taken rows edits) (Turned (refusal bankNumber 0)) ≡ Taken n m → Accepted (Read rows) (Read edits) bank n m
     pick true q h = record { score = cc; edits = cc; bank-long = eqb→eq bank bankBytes (rw q tt) }
-    pick false q h = turned-not bankNumber 0 n m h
+    pick false q h = turned-not (refusal bankNumber 0) n m h
 
 -- ---- what was read
 
@@ -84,7 +83,7 @@ zeros-long n = length-replicate {A = ℕ} n 0
 pub texts-read : (score edits : List ℕ) (bank : ℕ) (scored listed : ReadAnswer) {rows₀ rows words₀ words : List ℕ} {given : Inputs}
     → rows₀ ≡ zeros (mostRows * rowWords) → words₀ ≡ zeros (mostEdits * editWords)
     → outcome scored rows ≡ textOf readOf score rows₀ → outcome listed words ≡ textOf readEditsOf edits words₀
-    → length rows ≡ length rows₀ → length words ≡ length words₀ → given ≡ inputsOf (resultOf scored) (resultOf listed) bank
+    → length rows ≡ length rows₀ → length words ≡ length words₀ → given ≡ inputsOf scored listed bank
     → TextsRead score edits bank given rows words
 texts-read score edits bank scored listed {rows₀} {rows} {words₀} {words} z y r e j k g =
     let s : outcome scored rows ≡ scoreText score = r ∙ ap (λ (l : List ℕ). textOf readOf score l) z in
@@ -100,8 +99,8 @@ texts-read score edits bank scored listed {rows₀} {rows} {words₀} {words} z 
 -- ---- what they give
 
 module _ {score edits : List ℕ} {bank n m : ℕ} {given : Inputs} {rows words : List ℕ} (t : TextsRead score edits bank given rows words) (e : given ≡ Taken n m) where
-  taken : Accepted (scoreText score .result) (editsText edits .result) bank n m
-  taken = accepted (scoreText score .result) (editsText edits .result) bank n m (sym (t .given-is) ∙ e)
+  taken : Accepted (scoreText score .answer) (editsText edits .answer) bank n m
+  taken = accepted (scoreText score .answer) (editsText edits .answer) bank n m (sym (t .given-is) ∙ e)
 
   pub full-bank : bank ≡ bankBytes
   full-bank = taken .bank-long

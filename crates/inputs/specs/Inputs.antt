@@ -5,10 +5,11 @@ use mathlib.Core.Bool.{cond}
 use mathlib.Core.List.{List}
 use lib.Dec.{eqb, ltb}
 use lib.ListN.{length, replicate}
-use Rattle.score.specs.Limits.{rowWords}
-use Rattle.score.specs.Numbers.{Result, success, refused, spaceNumber}
+use Rattle.score.specs.Rows.{rowWords}
+use Rattle.score.specs.Numbers.{refusal, bankNumber, spaceNumber}
+use Rattle.score.specs.declared.reader.ReadAnswer.{ReadAnswer}
+use Rattle.score.specs.declared.reader.ReadAnswer.the-variants.{Read, Refused}
 use Rattle.score.specs.Reading.{Outcome, refuse, readOf, readEditsOf, editWords}
-use Rattle.take.specs.Take.{bankNumber}
 use Rattle.inputs.specs.declared.Inputs.{Inputs}
 use Rattle.inputs.specs.declared.Inputs.the-variants.{Taken, Turned}
 
@@ -33,7 +34,7 @@ zeros n = replicate n 0
 
 -- A text read by a reader: above 8,192 bytes it "gives 12 before anything else in it".
 unfoldable pub textOf : (List ℕ → List ℕ → Outcome) → List ℕ → List ℕ → Outcome
-textOf read text words = cond (ltb mostText (length text)) (refuse spaceNumber 0 words) (read text words)
+textOf read text words = cond (ltb mostText (length text)) (refuse (refusal spaceNumber 0) words) (read text words)
 
 -- The score's text and the edits' text: "more than 128 rows or 32 edits give 12 last", since there are words for so many.
 abbrev pub scoreText : List ℕ → Outcome
@@ -43,14 +44,14 @@ abbrev pub editsText : List ℕ → Outcome
 editsText text = textOf readEditsOf text (zeros (mostEdits * editWords))
 
 -- "The score is read first, then the edits, then the bank": how many rows and edits there are, or the first refusal. The bank by its length.
-unfoldable pub inputsOf : Result → Result → ℕ → Inputs
-inputsOf (refused n place) edits bank = Turned n place
-inputsOf (success rows) (refused n place) bank = Turned n place
-inputsOf (success rows) (success edits) bank = cond (eqb bank bankBytes) (Taken rows edits) (Turned bankNumber 0)
+unfoldable pub inputsOf : ReadAnswer → ReadAnswer → ℕ → Inputs
+inputsOf (Refused r) edits bank = Turned r
+inputsOf (Read rows) (Refused r) bank = Turned r
+inputsOf (Read rows) (Read edits) bank = cond (eqb bank bankBytes) (Taken rows edits) (Turned (refusal bankNumber 0))
 
 -- The texts were read: what was made of them and of the bank's length, and the words of both as they are left.
 pub record TextsRead (score edits : List ℕ) (bank : ℕ) (given : Inputs) (rows words : List ℕ) : Type 0 where
-  pub given-is : given ≡ inputsOf (scoreText score .result) (editsText edits .result) bank
+  pub given-is : given ≡ inputsOf (scoreText score .answer) (editsText edits .answer) bank
   pub rows-is : rows ≡ scoreText score .rows
   pub rows-long : length rows ≡ mostRows * rowWords
   pub words-is : words ≡ editsText edits .rows

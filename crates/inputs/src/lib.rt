@@ -1,14 +1,16 @@
 // What the program reads: the score's text, the edits' text and the bank, and the first refusal of the three.
 ghost use mathlib.Core.Path.{_≡_};
 ghost use Prim.Native.Nat.{_*_};
-ghost use Rattle.score.specs.Limits.{rowWords};
-ghost use Rattle.score.specs.Numbers.{resultOf};
+ghost use Rattle.score.specs.Rows.{rowWords};
 ghost use Rattle.score.specs.Reading.{outcome, readOf, readEditsOf, editWords};
 ghost use Rattle.inputs.specs.Inputs.{zeros, mostRows, mostEdits, textOf, inputsOf, TextsRead};
-use score::limits::ROW_WORDS;
-use score::numbers::SPACE;
+use oscillator::bank::BANK_LENGTH;
 use score::reader::EDIT_WORDS;
 use score::reader::ReadAnswer;
+use score::refusal::BANK;
+use score::refusal::Refusal;
+use score::refusal::SPACE;
+use score::rows::ROW_WORDS;
 
 // The most bytes of a text.
 pub const MOST_TEXT: usize = 8192;
@@ -17,18 +19,13 @@ pub const MOST_ROWS: usize = 128;
 
 pub const MOST_EDITS: usize = 32;
 
-// The samples of a full bank, and its bytes.
-pub const BANK_LENGTH: usize = 25344;
-
+// The bytes of a full bank.
 pub const BANK_BYTES: usize = BANK_LENGTH * 2;
 
-// The refusal of a bank.
-const BANK: u32 = 4;
-
-// How many rows and edits the texts have, or the number and the place of the first refusal.
+// How many rows and edits the texts have, or the first refusal.
 pub enum Inputs {
     Taken(usize, usize),
-    Turned(u32, usize),
+    Turned(Refusal),
 }
 
 // Words for the most rows.
@@ -50,7 +47,10 @@ fn read_score(text: &[u8], rows: &mut [u32]) -> ReadAnswer
     ensures { λ r. ⌜ outcome r (now (rows .exit)) ≡ textOf readOf (now (text .entry)) (now (rows .entry)) ⌝ }
 {
     if text.len() > MOST_TEXT {
-        return ReadAnswer::Refused(SPACE, 0);
+        return ReadAnswer::Refused(Refusal {
+            number: SPACE,
+            place: 0,
+        });
     }
     score::reader::read(text, rows)
 }
@@ -60,22 +60,28 @@ fn read_edits(text: &[u8], edits: &mut [u32]) -> ReadAnswer
     ensures { λ r. ⌜ outcome r (now (edits .exit)) ≡ textOf readEditsOf (now (text .entry)) (now (edits .entry)) ⌝ }
 {
     if text.len() > MOST_TEXT {
-        return ReadAnswer::Refused(SPACE, 0);
+        return ReadAnswer::Refused(Refusal {
+            number: SPACE,
+            place: 0,
+        });
     }
     score::reader::read_edits(text, edits)
 }
 
 // The first refusal is the score's, then the edits', then the bank's, which is known by its length.
 fn settle(score: ReadAnswer, edits: ReadAnswer, bank: usize) -> Inputs
-    ensures { λ r. ⌜ r ≡ inputsOf (resultOf score) (resultOf edits) bank ⌝ }
+    ensures { λ r. ⌜ r ≡ inputsOf score edits bank ⌝ }
 {
     match score {
-        ReadAnswer::Refused(number, place) => Inputs::Turned(number, place),
+        ReadAnswer::Refused(r) => Inputs::Turned(r),
         ReadAnswer::Read(rows) => match edits {
-            ReadAnswer::Refused(number, place) => Inputs::Turned(number, place),
+            ReadAnswer::Refused(r) => Inputs::Turned(r),
             ReadAnswer::Read(count) => {
                 if bank != BANK_BYTES {
-                    return Inputs::Turned(BANK, 0);
+                    return Inputs::Turned(Refusal {
+                        number: BANK,
+                        place: 0,
+                    });
                 }
                 Inputs::Taken(rows, count)
             }

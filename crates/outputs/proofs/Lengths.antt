@@ -23,8 +23,11 @@ number-most n end = rw length-append (omega (arith, digits-within n))
 
 pub line-most : (row : ℕ) (a : Answer) → length (editLine row a) ≤ mostLine
 unfolding editLine countsLine refusedLine
-line-most row (Done rendered held) =
-    rw (length-append (number row space) (number rendered space ++ number held lf), length-append (number rendered space) (number held lf))
-    (omega (arith, number-most row space, number-most rendered space, number-most held lf))
-line-most row (Refused n place) =
-    rw (length-append (number n space) (number place lf)) (omega (arith, number-most n space, number-most place lf))
+line-most row (Done p) =
+    let a = number row space in
+    let b = number (p .rows) space in
+    let d = number (p .holds .held) lf in
+    rw (length-append a (b ++ d), length-append b d)
+    (omega (arith, number-most row space, number-most (p .rows) space, number-most (p .holds .held) lf))
+line-most row (Refused r) =
+    rw (length-append (number (r .number) space) (number (r .place) lf)) (omega (arith, number-most (r .number) space, number-most (r .place) lf))

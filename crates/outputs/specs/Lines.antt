@@ -24,8 +24,8 @@ refusedLine n place = bytes "refused " ++ (number n space ++ number place lf)
 
 -- The line of an edit: "A refused edit prints its line in its turn".
 unfoldable pub editLine : ℕ → Answer → List ℕ
-editLine row (Done rendered held) = countsLine row rendered held
-editLine row (Refused n place) = refusedLine n place
+editLine row (Done report) = countsLine row (report .rows) (report .holds .held)
+editLine row (Refused r) = refusedLine (r .number) (r .place)
 
 -- The most bytes of a number with the byte after it, and of a line.
 abbrev pub mostNumber : ℕ

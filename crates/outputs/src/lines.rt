@@ -46,8 +46,11 @@ pub fn put_answer(row: u32, answer: Answer, printed: &mut [u8], at: usize) -> us
     ensures { λ r. ⌜ Written (editLine row answer) (now (printed .entry)) at (now (printed .exit)) r ⌝ }
 {
     match answer {
-        Answer::Done(rendered, held) => put_counts(row, rendered, held, printed, at),
-        Answer::Refused(number, place) => put_refusal(number, place, printed, at),
+        Answer::Done(report) => {
+            let holds = report.holds;
+            put_counts(row, report.rows, holds.held, printed, at)
+        }
+        Answer::Refused(r) => put_refusal(r.number, r.place, printed, at),
     }
 }
 

@@ -7,7 +7,8 @@ use lib.ListN.{length, getD, drop, length-append, take-append-drop}
 use lib.Seq.{getD-drop, drop-drop}
 use Rattle.score.specs.Reading.{editWords}
 use Rattle.take.specs.declared.Answer.{Answer}
-use Rattle.take.specs.Take.{Settings, Take, Outcome, outcome, editOf}
+use Rattle.rows.specs.Rows.{Setup, Take}
+use Rattle.take.specs.Take.{Outcome, outcome, editOf}
 use Rattle.take.specs.Retakes.{Edit, edited, after}
 use Rattle.formats.specs.Formats.{Written}
 use Rattle.formats.proofs.Writing.{written-more}
@@ -32,7 +33,7 @@ module _ (words : List ℕ) (k : ℕ) where
   five-at : word 1 ∷ word 2 ∷ word 3 ∷ word 4 ∷ word 5 ∷ [] ≡ editAt words k .words
   five-at = rw (word-at 1, word-at 2, word-at 3, word-at 4, word-at 5)
 
-  pub edit-done : (s : Settings) (rows : List ℕ) (t : Take) (answer : Answer) (rows' : List ℕ) (t' : Take) (printed : List ℕ) (at : ℕ) (printed' : List ℕ) (end : ℕ)
+  pub edit-done : (s : Setup) (rows : List ℕ) (t : Take) (answer : Answer) (rows' : List ℕ) (t' : Take) (printed : List ℕ) (at : ℕ) (printed' : List ℕ) (end : ℕ)
       → outcome answer rows' t' ≡ editOf s rows (getD words (k * editWords) 0) (word 1 ∷ word 2 ∷ word 3 ∷ word 4 ∷ word 5 ∷ []) t
       → Written (editLine (getD words (k * editWords) 0) answer) printed at printed' end
       → EditDone s (editAt words k) rows t rows' t' printed at printed' end
@@ -47,12 +48,12 @@ module _ (words : List ℕ) (k : ℕ) where
 -- ---- all edits
 
 -- what a list of edits leaves and prints does not go by what the call before it answered
-same-left : (s : Settings) (o : Outcome) (a : Answer) (es : List Edit) → after s (outcome a (o .score) (o .left)) es .left ≡ after s o es .left
+same-left : (s : Setup) (o : Outcome) (a : Answer) (es : List Edit) → after s (outcome a (o .score) (o .left)) es .left ≡ after s o es .left
 unfolding after
 same-left s o a [] = refl
 same-left s o a (e ∷ es) = refl
 
-same-lines : (s : Settings) (o : Outcome) (a : Answer) (es : List Edit) → editLines s (outcome a (o .score) (o .left)) es ≡ editLines s o es
+same-lines : (s : Setup) (o : Outcome) (a : Answer) (es : List Edit) → editLines s (outcome a (o .score) (o .left)) es ≡ editLines s o es
 unfolding editLines
 same-lines s o a [] = refl
 same-lines s o a (e ∷ es) = refl
@@ -62,7 +63,7 @@ abbrev rest : List ℕ → ℕ → ℕ → List Edit
 rest words k l = editsFrom l (drop (k * editWords) words)
 
 -- of the edits' words, those from edit k on are left to make and to print
-pub record Left (s : Settings) (words : List ℕ) (count : ℕ) (rows₀ : List ℕ) (t₀ : Take) (printed₀ : List ℕ) (at : ℕ)
+pub record Left (s : Setup) (words : List ℕ) (count : ℕ) (rows₀ : List ℕ) (t₀ : Take) (printed₀ : List ℕ) (at : ℕ)
     (rows : List ℕ) (t : Take) (printed : List ℕ) (end k : ℕ) : Type 0 where
   pub most : k ≤ count
   pub done : List ℕ
@@ -79,7 +80,7 @@ pub record Same (rows₀ out₀ aux₀ kept₀ printed₀ rows out aux kept prin
   pub kept-long : length kept ≡ length kept₀
   pub printed-long : length printed ≡ length printed₀
 
-pub begins : (s : Settings) (words : List ℕ) (count : ℕ) (rows : List ℕ) (t : Take) (printed : List ℕ) (at : ℕ) → Left s words count rows t printed at rows t printed at 0
+pub begins : (s : Setup) (words : List ℕ) (count : ℕ) (rows : List ℕ) (t : Take) (printed : List ℕ) (at : ℕ) → Left s words count rows t printed at rows t printed at 0
 begins s words count rows t printed at =
     record {
       most = zero-le;
@@ -90,7 +91,7 @@ begins s words count rows t printed at =
       left = λ l e a. ap (λ (n : ℕ). after s (outcome a rows t) (rest words 0 n) .left) (omega (arith, e));
     }
 
-module _ (s : Settings) (words : List ℕ) (count : ℕ) (rows₀ : List ℕ) (t₀ : Take) (printed₀ : List ℕ) (at : ℕ)
+module _ (s : Setup) (words : List ℕ) (count : ℕ) (rows₀ : List ℕ) (t₀ : Take) (printed₀ : List ℕ) (at : ℕ)
     (rows : List ℕ) (t : Take) (printed : List ℕ) (end k : ℕ)
     (so-far : Left s words count rows₀ t₀ printed₀ at rows t printed end k) where
   next : drop ((k + 1) * editWords) words ≡ drop editWords (drop (k * editWords) words)

@@ -7,8 +7,11 @@ use lib.ListN.{length, take, replicate, length-replicate}
 use Rattle.formats.specs.Formats.{Written}
 use Rattle.formats.proofs.Writing.{written-more}
 use Rattle.take.specs.declared.Answer.{Answer}
-use Rattle.take.specs.Take.{Settings, Take, lent, keptCount, outcome, renderOf}
+use Rattle.voice.specs.Voice.{keptCount}
+use Rattle.rows.specs.Rows.{Setup, Take, lent}
+use Rattle.take.specs.Take.{outcome, renderOf}
 use Rattle.take.specs.Retakes.{Edit}
+use Rattle.score.specs.declared.refusal.Refusal.{Refusal}
 use Rattle.inputs.specs.declared.Inputs.{Inputs}
 use Rattle.inputs.specs.Inputs.{zeros, TextsRead}
 use Rattle.outputs.specs.Lines.{heading, refusedLine}
@@ -19,7 +22,7 @@ use Rattle.retake_lib.specs.declared.Lengths.{Lengths}
 use Rattle.retake_lib.specs.Program.{frames, blank, turned, played, outputOf, program}
 use Rattle.retake_lib.specs.Lent.{Bytes, bytesLent, EditsDone, Ran}
 
-pub played-is : (s : Settings) (rows : List ℕ) (t : Take) (es : List Edit) {t' t'' : Take} {a : Answer} {p p' p'' first first' second second' : List ℕ} {e e' : ℕ} {w : Files}
+pub played-is : (s : Setup) (rows : List ℕ) (t : Take) (es : List Edit) {t' t'' : Take} {a : Answer} {p p' p'' first first' second second' : List ℕ} {e e' : ℕ} {w : Files}
     → outcome a rows t' ≡ renderOf s rows t → Written heading p 0 p' e → EditsDone s es rows t' t'' p' e p'' e'
     → Handed first first' second second' (filesOf (t'' .out) (t'' .aux)) w
     → Ran (played s rows t es) (bytesLent p first second) (bytesLent p'' first' second') (record { printed = e'; files = w })
@@ -37,9 +40,9 @@ pub program-is : (score edits bank : List ℕ) {given : Inputs} {rows words : Li
 unfolding program
 program-is score edits bank t = rw (t .given-is, t .rows-is, t .words-is)
 
-pub ran-turned : (n place : ℕ) {p p' : List ℕ} {e : ℕ} (first second : List ℕ) → Written (refusedLine n place) p 0 p' e
-    → Ran (turned n place) (bytesLent p first second) (bytesLent p' first second) (record { printed = e; files = Nothing })
-ran-turned n place first second w = record { printed-in = w; files-in = nothing refl refl }
+pub ran-turned : (r : Refusal) {p p' : List ℕ} {e : ℕ} (first second : List ℕ) → Written (refusedLine (r .number) (r .place)) p 0 p' e
+    → Ran (turned r) (bytesLent p first second) (bytesLent p' first second) (record { printed = e; files = Nothing })
+ran-turned r first second w = record { printed-in = w; files-in = nothing refl refl }
 
 -- ---- parts of zeros
 
@@ -56,7 +59,7 @@ pub part-long : {l : List ℕ} (n k : ℕ) → l ≡ zeros n → k ≤ n → k �
 unfolding zeros
 part-long {l} n k e h = rw (part-of-zeros n k e h) (sym (length-replicate k 0))
 
-pub played-blank : (s : Settings) (n : ℕ) (rows : List ℕ) (es : List Edit) {out aux kept : List ℕ} {b b' : Bytes} {l : Lengths}
+pub played-blank : (s : Setup) (n : ℕ) (rows : List ℕ) (es : List Edit) {out aux kept : List ℕ} {b b' : Bytes} {l : Lengths}
     → out ≡ zeros (n * frames) → aux ≡ zeros (n * frames) → kept ≡ zeros (n * keptCount)
     → Ran (played s rows (lent out aux kept) es) b b' l → Ran (played s rows (blank n) es) b b' l
 played-blank s n rows es o a k h = rw (o, a, k) at h

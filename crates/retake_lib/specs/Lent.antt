@@ -6,7 +6,8 @@ use lib.ListN.{length}
 use Rattle.formats.specs.Formats.{Written}
 use Rattle.score.specs.Reading.{editWords}
 use Rattle.take.specs.declared.Answer.{Answer}
-use Rattle.take.specs.Take.{Settings, Take, outcome}
+use Rattle.rows.specs.Rows.{Setup, Take}
+use Rattle.take.specs.Take.{outcome}
 use Rattle.take.specs.Retakes.{Edit, edited, after}
 use Rattle.inputs.specs.Inputs.{mostRows, mostEdits}
 use Rattle.outputs.specs.Lines.{editLine, mostLine}
@@ -45,13 +46,13 @@ pub record RunRoom (printed first second : List ℕ) : Type 0 where
   pub second-long : length second ≡ fileRoom (mostRows * frames)
 
 -- An edit was made on a score and a take, and its line was written.
-pub record EditDone (s : Settings) (e : Edit) (rows : List ℕ) (t : Take) (rows' : List ℕ) (t' : Take) (printed : List ℕ) (at : ℕ) (printed' : List ℕ) (end : ℕ) : Type 0 where
+pub record EditDone (s : Setup) (e : Edit) (rows : List ℕ) (t : Take) (rows' : List ℕ) (t' : Take) (printed : List ℕ) (at : ℕ) (printed' : List ℕ) (end : ℕ) : Type 0 where
   pub score : rows' ≡ edited s rows t e .score
   pub left : t' ≡ edited s rows t e .left
   pub line : Written (editLine (e .row) (edited s rows t e .answer)) printed at printed' end
 
 -- So was a list of edits, whatever the call before it answered.
-pub record EditsDone (s : Settings) (es : List Edit) (rows : List ℕ) (t t' : Take) (printed : List ℕ) (at : ℕ) (printed' : List ℕ) (end : ℕ) : Type 0 where
+pub record EditsDone (s : Setup) (es : List Edit) (rows : List ℕ) (t t' : Take) (printed : List ℕ) (at : ℕ) (printed' : List ℕ) (end : ℕ) : Type 0 where
   pub left : (a : Answer) → t' ≡ after s (outcome a rows t) es .left
   pub lines : (a : Answer) → Written (editLines s (outcome a rows t) es) printed at printed' end
 

@@ -5,9 +5,13 @@ use mathlib.Core.List.{List, [], _∷_, _++_}
 use lib.IntN.{ℤ}
 use lib.ListN.{length, getD, take, drop}
 use Rattle.formats.specs.Formats.{samplesOf}
-use Rattle.score.specs.Limits.{rowWords}
+use Rattle.score.specs.Rows.{rowWords}
 use Rattle.score.specs.Reading.{editWords}
-use Rattle.take.specs.Take.{Settings, settings, Take, lent, keptCount, Outcome, renderOf}
+use Rattle.score.specs.declared.refusal.Refusal.{Refusal}
+use Rattle.voice.specs.Voice.{keptCount}
+use Rattle.rows.specs.declared.Settings.{Settings}
+use Rattle.rows.specs.Rows.{Setup, setup, Take, lent}
+use Rattle.take.specs.Take.{Outcome, renderOf}
 use Rattle.take.specs.Retakes.{Edit, edited, after, scoreAfter, fresh, takeOf}
 use Rattle.inputs.specs.declared.Inputs.{Inputs}
 use Rattle.inputs.specs.declared.Inputs.the-variants.{Taken, Turned}
@@ -42,20 +46,23 @@ rate = 48000
 abbrev pub frames : ℕ
 frames = 24
 
--- The settings with a bank's samples, and no map.
-abbrev pub settingsWith : List ℤ → Settings
-settingsWith bank = settings instrument rate frames bank []
+abbrev pub settings : Settings
+settings = record { instrument = instrument; rate = rate; frames = frames }
+
+-- These with a bank's samples, and no map.
+abbrev pub setupWith : List ℤ → Setup
+setupWith bank = setup settings bank []
 
 -- The bank's bytes: "i16, low byte first".
-abbrev pub settingsOf : List ℕ → Settings
-settingsOf bank = settingsWith (samplesOf bank)
+abbrev pub setupOf : List ℕ → Setup
+setupOf bank = setupWith (samplesOf bank)
 
 -- The take of n rows before it is rendered.
 abbrev pub blank : ℕ → Take
 blank n = lent (zeros (n * frames)) (zeros (n * frames)) (zeros (n * keptCount))
 
 -- The lines of edits, each of which is handed what the call before it left: "A refused edit prints its line in its turn and the next edit follows."
-unfoldable pub editLines : Settings → Outcome → List Edit → List ℕ
+unfoldable pub editLines : Setup → Outcome → List Edit → List ℕ
 editLines s o [] = []
 editLines s o (e ∷ es) = editLine (e .row) (edited s (o .score) (o .left) e .answer) ++ editLines s (edited s (o .score) (o .left) e) es
 
@@ -65,11 +72,11 @@ pub record Output : Type 0 where
   pub files : List File
 
 -- "After a refusal of these three, nothing more is printed or written."
-abbrev pub turned : ℕ → ℕ → Output
-turned n place = record { printed = refusedLine n place; files = [] }
+abbrev pub turned : Refusal → Output
+turned r = record { printed = refusedLine (r .number) (r .place); files = [] }
 
 -- A score rendered whole into a take, then edit after edit. "After the last edit it writes `out.f32` and `aux.f32`".
-unfoldable pub played : Settings → List ℕ → Take → List Edit → Output
+unfoldable pub played : Setup → List ℕ → Take → List Edit → Output
 played s rows t es =
     let o = renderOf s rows t in
     let t' = after s o es .left in
@@ -77,17 +84,17 @@ played s rows t es =
 
 -- By what the texts and the bank gave.
 unfoldable pub outputOf : Inputs → List ℕ → List ℕ → List ℕ → Output
-outputOf (Turned n place) rows edits bank = turned n place
-outputOf (Taken n m) rows edits bank = played (settingsOf bank) (take (n * rowWords) rows) (blank n) (editsFrom m edits)
+outputOf (Turned r) rows edits bank = turned r
+outputOf (Taken n m) rows edits bank = played (setupOf bank) (take (n * rowWords) rows) (blank n) (editsFrom m edits)
 
 -- The program, by the bytes of `score.txt`, `edits.txt` and `bank.bin`.
 unfoldable pub program : List ℕ → List ℕ → List ℕ → Output
 program score edits bank =
-    outputOf (inputsOf (scoreText score .result) (editsText edits .result) (length bank)) (scoreText score .rows) (editsText edits .rows) bank
+    outputOf (inputsOf (scoreText score .answer) (editsText edits .answer) (length bank)) (scoreText score .rows) (editsText edits .rows) bank
 
 -- Demand 3 as far as the files: they hold the fresh rendering of the score with each accepted edit's row put in.
 abbrev pub FilesFresh : Type 0
 FilesFresh =
-    (score edits bank : List ℕ) (n m : ℕ) → inputsOf (scoreText score .result) (editsText edits .result) (length bank) ≡ Taken n m
-    → let last = takeOf (fresh (settingsOf bank) (scoreAfter (take (n * rowWords) (scoreText score .rows)) (editsFrom m (editsText edits .rows)))) in
+    (score edits bank : List ℕ) (n m : ℕ) → inputsOf (scoreText score .answer) (editsText edits .answer) (length bank) ≡ Taken n m
+    → let last = takeOf (fresh (setupOf bank) n (scoreAfter (take (n * rowWords) (scoreText score .rows)) (editsFrom m (editsText edits .rows)))) in
     program score edits bank .files ≡ filesOf (last .out) (last .aux)

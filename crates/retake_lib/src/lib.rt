@@ -52,8 +52,8 @@ fn run_into(
     let mut words = inputs::no_edits();
     let given = inputs::read(score, edits, bank.len(), &mut rows, &mut words);
     match given {
-        Inputs::Turned(number, place) => {
-            let end = put_refusal(number, place, printed, 0);
+        Inputs::Turned(r) => {
+            let end = put_refusal(r.number, r.place, printed, 0);
             Lengths {
                 printed: end,
                 files: Files::Nothing,

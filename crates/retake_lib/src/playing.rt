@@ -2,21 +2,24 @@
 ghost use mathlib.Core.Path.{_≡_};
 ghost use Prim.Native.Nat.{_+_, _*_, _≤_};
 ghost use lib.ListN.{length, take};
-ghost use Rattle.score.specs.Limits.{rowWords};
+ghost use Rattle.score.specs.Rows.{rowWords};
 ghost use Rattle.score.specs.Reading.{editWords};
-ghost use Rattle.take.specs.Take.{lent, bankLength, keptCount};
+ghost use Rattle.oscillator.specs.Bank.{bankLength};
+ghost use Rattle.voice.specs.Voice.{keptCount};
+ghost use Rattle.rows.specs.Rows.{lent};
 ghost use Rattle.inputs.specs.Inputs.{zeros, mostRows, bankBytes, Given};
 ghost use Rattle.outputs.specs.Lines.{mostLine};
-ghost use Rattle.retake_lib.specs.Program.{settingsWith, settingsOf, editAt, editsFrom, frames, blank, played};
+ghost use Rattle.retake_lib.specs.Program.{setupWith, setupOf, editAt, editsFrom, frames, blank, played};
 ghost use Rattle.retake_lib.specs.Lent.{bytesLent, EditDone, EditsDone, Room, RunRoom, Ran};
 use crate::Lengths;
-use inputs::BANK_LENGTH;
 use inputs::MOST_ROWS;
+use oscillator::bank::BANK_LENGTH;
 use outputs::files::put_files;
 use outputs::lines::put_answer;
 use outputs::lines::put_heading;
-use score::limits::ROW_WORDS;
+use rows::Settings;
 use score::reader::EDIT_WORDS;
+use score::rows::ROW_WORDS;
 use voice::KEPT_WORDS;
 use voice::WAVETABLE;
 
@@ -24,6 +27,13 @@ use voice::WAVETABLE;
 const RATE: u32 = 48000;
 
 pub const FRAMES: usize = 24;
+
+// The program's instrument, rate and frames.
+const SETTINGS: Settings = Settings {
+    instrument: WAVETABLE,
+    rate: RATE,
+    frames: FRAMES,
+};
 
 // Edit k of the edits' words, and its line; where the line ends.
 fn edit(
@@ -39,7 +49,7 @@ fn edit(
 ) -> usize
     requires { ⌜ k * editWords + editWords ≤ length (now edits) ⌝ }
     requires { ⌜ at + mostLine ≤ length (now printed) ⌝ }
-    ensures { λ r. ⌜ EditDone (settingsWith (now (bank .entry))) (editAt (now (edits .entry)) k)
+    ensures { λ r. ⌜ EditDone (setupWith (now (bank .entry))) (editAt (now (edits .entry)) k)
         (now (rows .entry)) (lent (now (out .entry)) (now (aux .entry)) (now (kept .entry)))
         (now (rows .exit)) (lent (now (out .exit)) (now (aux .exit)) (now (kept .exit)))
         (now (printed .entry)) at (now (printed .exit)) r ⌝ }
@@ -54,9 +64,7 @@ fn edit(
         edits[a + 5],
     ];
     let answer = take::edit(
-        WAVETABLE,
-        RATE,
-        FRAMES,
+        SETTINGS,
         bank,
         b"",
         rows,
@@ -83,7 +91,7 @@ fn edit_all(
 ) -> usize
     requires { ⌜ count * editWords ≤ length (now edits) ⌝ }
     requires { ⌜ at + count * mostLine ≤ length (now printed) ⌝ }
-    ensures { λ r. ⌜ EditsDone (settingsWith (now (bank .entry))) (editsFrom count (now (edits .entry)))
+    ensures { λ r. ⌜ EditsDone (setupWith (now (bank .entry))) (editsFrom count (now (edits .entry)))
         (now (rows .entry)) (lent (now (out .entry)) (now (aux .entry)) (now (kept .entry)))
         (lent (now (out .exit)) (now (aux .exit)) (now (kept .exit)))
         (now (printed .entry)) at (now (printed .exit)) r ⌝ }
@@ -111,12 +119,12 @@ fn play_words(
     second: &mut [u8],
 ) -> Lengths
     requires { ⌜ Room (length (now out)) (length (now aux)) count (now edits) (now printed) (now first) (now second) ⌝ }
-    ensures { λ r. ⌜ Ran (played (settingsWith (now (bank .entry))) (now (rows .entry))
+    ensures { λ r. ⌜ Ran (played (setupWith (now (bank .entry))) (now (rows .entry))
         (lent (now (out .entry)) (now (aux .entry)) (now (kept .entry))) (editsFrom count (now (edits .entry))))
         (bytesLent (now (printed .entry)) (now (first .entry)) (now (second .entry)))
         (bytesLent (now (printed .exit)) (now (first .exit)) (now (second .exit))) r ⌝ }
 {
-    take::render(WAVETABLE, RATE, FRAMES, bank, b"", rows, out, aux, kept);
+    take::render(SETTINGS, bank, b"", rows, out, aux, kept);
     let at = put_heading(printed);
     let end = edit_all(bank, edits, count, rows, out, aux, kept, printed, at);
     let files = put_files(out, aux, first, second);
@@ -151,7 +159,7 @@ fn play_rows(
 ) -> Lengths
     requires { ⌜ Given n count (now rows) (now edits) ⌝ }
     requires { ⌜ RunRoom (now printed) (now first) (now second) ⌝ }
-    ensures { λ r. ⌜ Ran (played (settingsWith (now (bank .entry))) (take (n * rowWords) (now (rows .entry))) (blank n) (editsFrom count (now (edits .entry))))
+    ensures { λ r. ⌜ Ran (played (setupWith (now (bank .entry))) (take (n * rowWords) (now (rows .entry))) (blank n) (editsFrom count (now (edits .entry))))
         (bytesLent (now (printed .entry)) (now (first .entry)) (now (second .entry)))
         (bytesLent (now (printed .exit)) (now (first .exit)) (now (second .exit))) r ⌝ }
 {
@@ -195,7 +203,7 @@ pub fn play(
     requires { ⌜ length (now bank) ≡ bankBytes ⌝ }
     requires { ⌜ Given n count (now rows) (now edits) ⌝ }
     requires { ⌜ RunRoom (now printed) (now first) (now second) ⌝ }
-    ensures { λ r. ⌜ Ran (played (settingsOf (now (bank .entry))) (take (n * rowWords) (now (rows .entry))) (blank n) (editsFrom count (now (edits .entry))))
+    ensures { λ r. ⌜ Ran (played (setupOf (now (bank .entry))) (take (n * rowWords) (now (rows .entry))) (blank n) (editsFrom count (now (edits .entry))))
         (bytesLent (now (printed .entry)) (now (first .entry)) (now (second .entry)))
         (bytesLent (now (printed .exit)) (now (first .exit)) (now (second .exit))) r ⌝ }
 {

@@ -46,7 +46,7 @@ unfolding outputOf
 returns c =
     let refusal = c .before .before in
     let read = refusal .before .before .before .before .before .read in
-    rw (program-is _ _ _ (read .ensures), refusal .before .before .before .given .given .1) (ran-turned _ _ _ _ (refusal .put-refusal .ensures))
+    rw (program-is _ _ _ (read .ensures), refusal .before .before .before .given .given .1) (ran-turned _ _ _ (refusal .put-refusal .ensures))
 
 same-length-2 : tie.Need-same-length-2
 same-length-2 c = search needs

@@ -21,7 +21,7 @@ same-length c = search needs
 
 returns : tie.Need-returns
 unfolding editLine
-returns c = rw (c .before .before .before .before .before .answer .given .1) (c .before .before .put-counts .ensures)
+returns c = rw (c .before .before .before .before .before .before .answer .given .1) (c .before .before .put-counts .ensures)
 
 same-length-2 : tie.Need-same-length-2
 same-length-2 c = search needs

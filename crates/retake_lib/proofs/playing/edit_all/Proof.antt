@@ -2,8 +2,8 @@
 use borrow.Author.Needs.{needs}
 use native.Mathlib.Omega.{arith}
 use Prim.Native.Nat.{_-_}
-use Rattle.retake_lib.specs.Program.{settingsWith}
-use Rattle.take.specs.Take.{lent}
+use Rattle.retake_lib.specs.Program.{setupWith}
+use Rattle.rows.specs.Rows.{lent}
 use Rattle.retake_lib.proofs.Editing.{Left, begins, goes-on, ends, Same}
 use Rattle.retake_lib.proofs.playing.edit_all.Statement.{statement}
 use Rattle.retake_lib.proofs.playing.edit_all.Tie as tie
@@ -11,7 +11,7 @@ use Rattle.retake_lib.proofs.playing.edit_all.Tie as tie
 abbrev Inv-loop : tie.InvT-loop
 Inv-loop bank edits count rows₀ out₀ aux₀ kept₀ printed₀ at end₀ k₀ rows out aux kept printed end k =
     Same rows₀ out₀ aux₀ kept₀ printed₀ rows out aux kept printed
-    × Left (settingsWith bank) edits count rows₀ (lent out₀ aux₀ kept₀) printed₀ at rows (lent out aux kept) printed end k
+    × Left (setupWith bank) edits count rows₀ (lent out₀ aux₀ kept₀) printed₀ at rows (lent out aux kept) printed end k
 
 abbrev μ-loop : tie.MeasureT-loop
 μ-loop bank edits count rows₀ out₀ aux₀ kept₀ printed₀ at end₀ k₀ rows out aux kept printed end k = count - k

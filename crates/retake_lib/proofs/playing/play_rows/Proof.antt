@@ -4,8 +4,8 @@ use mathlib.Core.Path.{sym}
 use native.Mathlib.Omega.{arith}
 use Prim.Native.Nat.{_*_}
 use borrow.Author.Needs.{needs}
-use Rattle.score.specs.Limits.{rowWords}
-use Rattle.take.specs.Take.{keptCount}
+use Rattle.score.specs.Rows.{rowWords}
+use Rattle.voice.specs.Voice.{keptCount}
 use Rattle.retake_lib.specs.Program.{frames}
 use Rattle.retake_lib.proofs.Outputs.{part-long, part-of-zeros, played-blank}
 use Rattle.retake_lib.proofs.playing.play_rows.Statement.{statement}

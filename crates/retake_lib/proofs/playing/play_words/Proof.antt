@@ -25,7 +25,7 @@ put-files-requires c κs =
     let room = rendered .before .before .before .before .before .before .before .before .before .before .before .before .before .before .pre in
     let more = edits .edit-all in
     let made = rendered .render in
-    (omega (arith, room .first-room, more .kept .1 .1 .1 .1 .0, made .kept .1 .1 .1 .1 .1 .1 .0), omega (arith, room .second-room, more .kept .1 .1 .1 .1 .1 .0, made .kept .1 .1 .1 .1 .1 .1 .1 .0))
+    (omega (arith, room .first-room, more .kept .1 .1 .1 .1 .0, made .kept .1 .1 .1 .1 .0), omega (arith, room .second-room, more .kept .1 .1 .1 .1 .1 .0, made .kept .1 .1 .1 .1 .1 .0))
 
 same-length : tie.Need-same-length
 same-length c = search needs
