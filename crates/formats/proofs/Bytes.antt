@@ -1,4 +1,5 @@
--- Laws of bytes that a loop writes from the front: what is left to write, after what is written, is the whole.
+-- Bytes that a loop writes from the front: what is left to write, after what is written, is the whole. A number's last digit goes behind
+-- the digits of its tenth.
 use mathlib.Core.Path.{_≡_, refl, sym, ap, _∙_}
 use mathlib.Core.List.{List, [], _∷_, _++_, append-assoc, append-nil}
 use mathlib.Core.Bool.{Bool, true, false, cond}
@@ -14,7 +15,8 @@ use mir.Val.{SFits, toZ, ofZ}
 use mir.Facts.{toZ-pos, toZ-ofZ}
 use lib.ListN.{length, getD, take, drop, set, length-append, length-drop, length-set, drop-of-length-le, take-append-drop}
 use lib.Seq.{drop-cons, take-at, take-all, take-suc-set, append-snoc, set-at, length-take-le, drop-drop}
-use Rattle.formats.specs.Formats.{put, digits, digit, bytesOf, lowFirst, i16Of, samplesOf}
+use Rattle.words.specs.Lists.{put}
+use Rattle.formats.specs.Formats.{Written, digits, digit, bytesOf, lowFirst, i16Of, samplesOf}
 
 -- four bytes in the place of four
 pub four : (l : List ℕ) (a b c d : ℕ) → length l ≡ 4 → set (set (set (set l 0 a) 1 b) 2 c) 3 d ≡ a ∷ b ∷ c ∷ d ∷ []
@@ -42,7 +44,9 @@ words-go-on words bytes n i e l p =
     let w = bytesOf (getD words i 0) in
     let new = take (i * 4) bytes ++ (w ++ drop 4 (drop (i * 4) bytes)) in
     let m : length (take (i * 4) bytes ++ w) ≡ (i + 1) * 4 = rw (length-append) (omega arith) in
-    let t : take ((i + 1) * 4) new ≡ take (i * 4) bytes ++ w = rw (sym (append-assoc (take (i * 4) bytes) w (drop 4 (drop (i * 4) bytes)))) (take-at (take (i * 4) bytes ++ w) (drop 4 (drop (i * 4) bytes)) ((i + 1) * 4) m) in
+    let rest = drop 4 (drop (i * 4) bytes) in
+    let t : take ((i + 1) * 4) new ≡ take (i * 4) bytes ++ w =
+    rw (sym (append-assoc (take (i * 4) bytes) w rest)) (take-at (take (i * 4) bytes ++ w) rest ((i + 1) * 4) m) in
     record {
       at = omega arith;
       long = rw (length-append, length-append, length-drop, length-drop) (omega (arith, p .long));
@@ -73,12 +77,15 @@ samples-go-on bytes samples n i e l p =
     let k : suc (i * 2 + 1) ≡ (i + 1) * 2 = omega arith in
     let a : drop (i * 2) bytes ≡ getD bytes (i * 2) 0 ∷ drop (suc (i * 2)) bytes = drop-cons bytes (i * 2) 0 (omega arith) in
     let b : drop (suc (i * 2)) bytes ≡ getD bytes (i * 2 + 1) 0 ∷ drop ((i + 1) * 2) bytes =
-    drop-cons bytes (suc (i * 2)) 0 (omega arith) ∙ ap (λ (j : ℕ). getD bytes j 0 ∷ drop (suc j) bytes) (sym (add-one (i * 2))) ∙ ap (λ (j : ℕ). getD bytes (i * 2 + 1) 0 ∷ drop j bytes) k in
+    drop-cons bytes (suc (i * 2)) 0 (omega arith)
+    ∙ ap (λ (j : ℕ). getD bytes j 0 ∷ drop (suc j) bytes) (sym (add-one (i * 2)))
+    ∙ ap (λ (j : ℕ). getD bytes (i * 2 + 1) 0 ∷ drop j bytes) k in
     record {
       at = omega arith;
       long = length-set samples i v ∙ p .long;
       left =
-          ap (λ (xs : List ℤ). xs ++ samplesOf (drop ((i + 1) * 2) bytes)) (ap (λ (j : ℕ). take j (set samples i v)) (add-one i) ∙ take-suc-set samples i v (omega (arith, p .long)))
+          ap (λ (xs : List ℤ). xs ++ samplesOf (drop ((i + 1) * 2) bytes))
+          (ap (λ (j : ℕ). take j (set samples i v)) (add-one i) ∙ take-suc-set samples i v (omega (arith, p .long)))
           ∙ append-snoc (take i samples) v (samplesOf (drop ((i + 1) * 2) bytes))
           ∙ (rw (a, b) at (p .left));
     }
@@ -110,7 +117,8 @@ put-more l a ys d h =
     let n = a + length ys in
     let k : length (take a l ++ ys) ≡ n = rw (length-append, length-take-le a l (omega arith)) refl in
     let e : drop (length ys) (drop a l) ≡ getD l n 0 ∷ drop (suc n) l = drop-drop (length ys) a l ∙ drop-cons l n 0 h in
-    let s : put l a ys ≡ (take a l ++ ys) ++ getD l n 0 ∷ drop (suc n) l = ap (λ (r : List ℕ). take a l ++ (ys ++ r)) e ∙ sym (append-assoc (take a l) ys (getD l n 0 ∷ drop (suc n) l)) in
+    let s : put l a ys ≡ (take a l ++ ys) ++ getD l n 0 ∷ drop (suc n) l =
+    ap (λ (r : List ℕ). take a l ++ (ys ++ r)) e ∙ sym (append-assoc (take a l) ys (getD l n 0 ∷ drop (suc n) l)) in
     let j : a + length (ys ++ d ∷ []) ≡ suc n = rw (length-append) (omega arith) in
     let r : drop (length (ys ++ d ∷ [])) (drop a l) ≡ drop (suc n) l = drop-drop (length (ys ++ d ∷ [])) a l ∙ ap (λ (j : ℕ). drop j l) j in
     ap (λ (x : List ℕ). set x n d) s
@@ -134,26 +142,32 @@ unfolding digits
 digits-more k n h = ap (λ (b : Bool). cond b (digit n ∷ []) (digits k (n / 10) ++ digit (n % 10) ∷ [])) (le-ltb n 10 h)
 
 -- ---- what `put_digits` does in each of its cases
-pub put-zero : (l : List ℕ) (a k n : ℕ) → k ≡ 0 → a < length l → (a + 1 ≡ a + length (digits k n)) × (set l a (digit (n % 10)) ≡ put l a (digits k n))
+pub put-zero : (l : List ℕ) (a k n : ℕ) → k ≡ 0 → a < length l → Written (digits k n) l a (set l a (digit (n % 10))) (a + 1)
 unfolding digits
-put-zero l a k n e h = rw e (refl, put-one l a (digit (n % 10)) h)
+put-zero l a k n e h = rw e (record { put-in = put-one l a (digit (n % 10)) h; end-is = refl })
 
 above-zero : (k : ℕ) → (k ≡ 0 → ⊥) → k ≡ suc (k - 1)
 above-zero zero h = absurd (h refl)
 above-zero (suc k) h = omega arith
 
-pub put-last : (l : List ℕ) (a k n : ℕ) → (k ≡ 0 → ⊥) → n < 10 → a < length l → (a + 1 ≡ a + length (digits k n)) × (set l a (digit n) ≡ put l a (digits k n))
+pub put-last : (l : List ℕ) (a k n : ℕ) → (k ≡ 0 → ⊥) → n < 10 → a < length l → Written (digits k n) l a (set l a (digit n)) (a + 1)
 put-last l a k n z s h =
     let e : digits k n ≡ digit n ∷ [] = ap (λ (j : ℕ). digits j n) (above-zero k z) ∙ digits-last (k - 1) n s in
-    rw e (refl, put-one l a (digit n) h)
+    rw e (record { put-in = put-one l a (digit n) h; end-is = refl })
 
-pub put-next : (l m : List ℕ) (a k n r : ℕ) → (k ≡ 0 → ⊥) → 10 ≤ n → a + k < length l → r ≡ a + length (digits (k - 1) (n / 10)) → m ≡ put l a (digits (k - 1) (n / 10))
-    → (r + 1 ≡ a + length (digits k n)) × (set m r (digit (n % 10)) ≡ put l a (digits k n))
-put-next l m a k n r z s h p q =
-    let e : digits k n ≡ digits (k - 1) (n / 10) ++ digit (n % 10) ∷ [] = ap (λ (j : ℕ). digits j n) (above-zero k z) ∙ digits-more (k - 1) n s in
-    let b : a + length (digits (k - 1) (n / 10)) < length l = omega (arith, digits-most (k - 1) (n / 10), above-zero k z) in
-    let f : r + 1 ≡ a + length (digits (k - 1) (n / 10) ++ digit (n % 10) ∷ []) = rw (length-append) (omega arith) in
-    (rw e f, rw (e, p, q) (put-more l a (digits (k - 1) (n / 10)) (digit (n % 10)) b))
+module _ (l m : List ℕ) (a k n r : ℕ) (z : k ≡ 0 → ⊥) (s : 10 ≤ n) (h : a + k < length l) (w : Written (digits (k - 1) (n / 10)) l a m r) where
+  tenth-fits : a + length (digits (k - 1) (n / 10)) < length l
+  tenth-fits = omega (arith, digits-most (k - 1) (n / 10), above-zero k z)
+
+  pub next-fits : r < length l
+  next-fits = omega (arith, tenth-fits, w .end-is)
+
+  pub put-next : Written (digits k n) l a (set m r (digit (n % 10))) (r + 1)
+  put-next =
+      let tenth = digits (k - 1) (n / 10) in
+      let e : digits k n ≡ tenth ++ digit (n % 10) ∷ [] = ap (λ (j : ℕ). digits j n) (above-zero k z) ∙ digits-more (k - 1) n s in
+      let f : r + 1 ≡ a + length (tenth ++ digit (n % 10) ∷ []) = rw (length-append, w .end-is) (omega arith) in
+      record { put-in = rw (e, w .put-in, w .end-is) (put-more l a tenth (digit (n % 10)) tenth-fits); end-is = rw e f }
 
 -- ---- a sample below 0
 minus-one : (k : ℕ) → negsuc 0 -ℤ pos k ≡ negsuc k
@@ -172,4 +186,8 @@ above-is n h = toZ-pos w16 h ∙ sym (ap (λ (b : Bool). cond b (pos n) (negsuc 
 
 pub below-is : (n : ℕ) → 32768 ≤ n → n < 65536 → toZ w16 (ofZ w16 (negsuc 0 -ℤ toZ w16 (65535 - n))) ≡ i16Of n
 unfolding i16Of
-below-is n l h = toZ-ofZ (below-fits n l h) ∙ ap (λ (z : ℤ). negsuc 0 -ℤ z) (below n l h) ∙ minus-one (65535 - n) ∙ sym (ap (λ (b : Bool). cond b (pos n) (negsuc (65535 - n))) (le-ltb n 32768 l))
+below-is n l h =
+    toZ-ofZ (below-fits n l h)
+    ∙ ap (λ (z : ℤ). negsuc 0 -ℤ z) (below n l h)
+    ∙ minus-one (65535 - n)
+    ∙ sym (ap (λ (b : Bool). cond b (pos n) (negsuc (65535 - n))) (le-ltb n 32768 l))

@@ -1,14 +1,17 @@
 -- Document 01, "The program `retake`": decimal numbers, and words and samples as bytes, "low byte first".
 use Prim.Native.Nat.{ℕ, zero, suc, _+_, _-_, _*_, _/_, _%_}
+use mathlib.Core.Path.{_≡_}
 use mathlib.Core.Bool.{cond}
 use mathlib.Core.List.{List, [], _∷_, _++_}
 use lib.Dec.{ltb}
 use lib.IntN.{ℤ, pos, negsuc}
-use lib.ListN.{length, take, drop}
+use lib.ListN.{length}
+use Rattle.words.specs.Lists.{put}
 
--- ys in the place of as many bytes from a on.
-abbrev pub put : List ℕ → ℕ → List ℕ → List ℕ
-put l a ys = take a l ++ (ys ++ drop (length ys) (drop a l))
+-- A text was put into lent bytes from byte `at` on, and where it ends.
+pub record Written (text before : List ℕ) (at : ℕ) (now : List ℕ) (end : ℕ) : Type 0 where
+  pub put-in : now ≡ put before at text
+  pub end-is : end ≡ at + length text
 
 -- The byte of a digit: '0' is 48.
 abbrev pub digit : ℕ → ℕ
@@ -19,9 +22,13 @@ unfoldable pub digits : ℕ → ℕ → List ℕ
 digits zero n = digit (n % 10) ∷ []
 digits (suc k) n = cond (ltb n 10) (digit n ∷ []) (digits k (n / 10) ++ digit (n % 10) ∷ [])
 
--- A number in decimal: up to 18446744073709551615, which has 20 digits.
+-- A number is at most 18446744073709551615, which has 20 digits.
+abbrev pub mostDigits : ℕ
+mostDigits = 20
+
+-- A number in decimal.
 abbrev pub decimalOf : ℕ → List ℕ
-decimalOf n = digits 19 n
+decimalOf n = digits (mostDigits - 1) n
 
 -- The four bytes of a word, and of several.
 abbrev pub bytesOf : ℕ → List ℕ

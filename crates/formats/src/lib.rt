@@ -1,14 +1,29 @@
-// Numbers as the program `retake` reads and writes them: decimal digits, and words and samples as bytes, low byte first.
+// Texts and numbers as the program `retake` reads and writes them: decimal digits, and words and samples as bytes, low byte first.
 ghost use mathlib.Core.Path.{_≡_};
 ghost use Prim.Native.Nat.{_+_, _*_, _≤_, _<_};
-ghost use lib.ListN.{length, getD};
-ghost use Rattle.formats.specs.Formats.{put, digits, decimalOf, bytesOf, lowFirst, i16Of, samplesOf};
+ghost use lib.ListN.{length};
+ghost use Rattle.formats.specs.Formats.{Written, mostDigits, digits, decimalOf, bytesOf, lowFirst, i16Of, samplesOf};
+
+// The most digits of a number.
+pub const MOST_DIGITS: usize = 20;
+
+// A text from byte `at` on; where it ends.
+pub fn put_text(text: &[u8], bytes: &mut [u8], at: usize) -> usize
+    requires { ⌜ at + length (now text) ≤ length (now bytes) ⌝ }
+    ensures { λ r. ⌜ Written (now (text .entry)) (now (bytes .entry)) at (now (bytes .exit)) r ⌝ }
+{
+    let mut i = 0;
+    while i < text.len() {
+        bytes[at + i] = text[i];
+        i += 1;
+    }
+    at + i
+}
 
 // The digits of a number that has at most k + 1 of them, from byte `at` on; where they end.
 fn put_digits(k: usize, n: u64, text: &mut [u8], at: usize) -> usize
     requires { ⌜ at + k < length (now text) ⌝ }
-    ensures { λ r. ⌜ r ≡ at + length (digits k n) ⌝ }
-    ensures { λ _. ⌜ now (text .exit) ≡ put (now (text .entry)) at (digits k n) ⌝ }
+    ensures { λ r. ⌜ Written (digits k n) (now (text .entry)) at (now (text .exit)) r ⌝ }
 {
     if k == 0 {
         text[at] = 48 + (n % 10) as u8;
@@ -25,11 +40,10 @@ fn put_digits(k: usize, n: u64, text: &mut [u8], at: usize) -> usize
 
 // A number in decimal, from byte `at` on; where it ends.
 pub fn put_decimal(n: u64, text: &mut [u8], at: usize) -> usize
-    requires { ⌜ at + 20 ≤ length (now text) ⌝ }
-    ensures { λ r. ⌜ r ≡ at + length (decimalOf n) ⌝ }
-    ensures { λ _. ⌜ now (text .exit) ≡ put (now (text .entry)) at (decimalOf n) ⌝ }
+    requires { ⌜ at + mostDigits ≤ length (now text) ⌝ }
+    ensures { λ r. ⌜ Written (decimalOf n) (now (text .entry)) at (now (text .exit)) r ⌝ }
 {
-    put_digits(19, n, text, at)
+    put_digits(MOST_DIGITS - 1, n, text, at)
 }
 
 // The four bytes of a word, in the place of four.

@@ -7,10 +7,15 @@ use lib.ListN.{length, getD, drop, length-append, take-append-drop}
 use lib.Seq.{getD-drop, drop-drop}
 use Rattle.score.specs.Reading.{editWords}
 use Rattle.take.specs.declared.Answer.{Answer}
-use Rattle.take.specs.Take.{Settings, Take, Outcome, outcome, editOf}
+use Rattle.rows.specs.Rows.{Setup, Take}
+use Rattle.take.specs.Take.{Outcome, outcome, editOf}
 use Rattle.take.specs.Retakes.{Edit, edited, after}
-use Rattle.retake_lib.specs.Program.{editLine, editLines, editFrom, editAt, editsFrom, mostLine, Written, EditDone, EditsDone}
-use Rattle.retake_lib.proofs.Writing.{written-more, line-most}
+use Rattle.formats.specs.Formats.{Written}
+use Rattle.formats.proofs.Writing.{written-more}
+use Rattle.outputs.specs.Lines.{editLine, mostLine}
+use Rattle.outputs.proofs.Lengths.{line-most}
+use Rattle.retake_lib.specs.Program.{editLines, editAt, editsFrom}
+use Rattle.retake_lib.specs.Lent.{EditDone, EditsDone}
 
 -- ---- one edit
 
@@ -22,12 +27,14 @@ module _ (words : List ℕ) (k : ℕ) where
   row-at : getD words (k * editWords) 0 ≡ editAt words k .row
   row-at = ap (λ (n : ℕ). getD words n 0) (omega arith) ∙ word-at 0
 
-  five-at : getD words (k * editWords + 1) 0 ∷ getD words (k * editWords + 2) 0 ∷ getD words (k * editWords + 3) 0 ∷ getD words (k * editWords + 4) 0 ∷ getD words (k * editWords + 5) 0 ∷ []
-      ≡ editAt words k .words
+  abbrev word : ℕ → ℕ
+  word i = getD words (k * editWords + i) 0
+
+  five-at : word 1 ∷ word 2 ∷ word 3 ∷ word 4 ∷ word 5 ∷ [] ≡ editAt words k .words
   five-at = rw (word-at 1, word-at 2, word-at 3, word-at 4, word-at 5)
 
-  pub edit-done : (s : Settings) (rows : List ℕ) (t : Take) (answer : Answer) (rows' : List ℕ) (t' : Take) (printed : List ℕ) (at : ℕ) (printed' : List ℕ) (end : ℕ)
-      → outcome answer rows' t' ≡ editOf s rows (getD words (k * editWords) 0) (getD words (k * editWords + 1) 0 ∷ getD words (k * editWords + 2) 0 ∷ getD words (k * editWords + 3) 0 ∷ getD words (k * editWords + 4) 0 ∷ getD words (k * editWords + 5) 0 ∷ []) t
+  pub edit-done : (s : Setup) (rows : List ℕ) (t : Take) (answer : Answer) (rows' : List ℕ) (t' : Take) (printed : List ℕ) (at : ℕ) (printed' : List ℕ) (end : ℕ)
+      → outcome answer rows' t' ≡ editOf s rows (getD words (k * editWords) 0) (word 1 ∷ word 2 ∷ word 3 ∷ word 4 ∷ word 5 ∷ []) t
       → Written (editLine (getD words (k * editWords) 0) answer) printed at printed' end
       → EditDone s (editAt words k) rows t rows' t' printed at printed' end
   edit-done s rows t answer rows' t' printed at printed' end h w =
@@ -41,12 +48,12 @@ module _ (words : List ℕ) (k : ℕ) where
 -- ---- all edits
 
 -- what a list of edits leaves and prints does not go by what the call before it answered
-same-left : (s : Settings) (o : Outcome) (a : Answer) (es : List Edit) → after s (outcome a (o .score) (o .left)) es .left ≡ after s o es .left
+same-left : (s : Setup) (o : Outcome) (a : Answer) (es : List Edit) → after s (outcome a (o .score) (o .left)) es .left ≡ after s o es .left
 unfolding after
 same-left s o a [] = refl
 same-left s o a (e ∷ es) = refl
 
-same-lines : (s : Settings) (o : Outcome) (a : Answer) (es : List Edit) → editLines s (outcome a (o .score) (o .left)) es ≡ editLines s o es
+same-lines : (s : Setup) (o : Outcome) (a : Answer) (es : List Edit) → editLines s (outcome a (o .score) (o .left)) es ≡ editLines s o es
 unfolding editLines
 same-lines s o a [] = refl
 same-lines s o a (e ∷ es) = refl
@@ -55,7 +62,9 @@ same-lines s o a (e ∷ es) = refl
 abbrev rest : List ℕ → ℕ → ℕ → List Edit
 rest words k l = editsFrom l (drop (k * editWords) words)
 
-pub record Left (s : Settings) (words : List ℕ) (count : ℕ) (rows₀ : List ℕ) (t₀ : Take) (printed₀ : List ℕ) (at : ℕ) (rows : List ℕ) (t : Take) (printed : List ℕ) (end k : ℕ) : Type 0 where
+-- of the edits' words, those from edit k on are left to make and to print
+pub record Left (s : Setup) (words : List ℕ) (count : ℕ) (rows₀ : List ℕ) (t₀ : Take) (printed₀ : List ℕ) (at : ℕ)
+    (rows : List ℕ) (t : Take) (printed : List ℕ) (end k : ℕ) : Type 0 where
   pub most : k ≤ count
   pub done : List ℕ
   pub done-most : length done ≤ k * mostLine
@@ -71,7 +80,7 @@ pub record Same (rows₀ out₀ aux₀ kept₀ printed₀ rows out aux kept prin
   pub kept-long : length kept ≡ length kept₀
   pub printed-long : length printed ≡ length printed₀
 
-pub begins : (s : Settings) (words : List ℕ) (count : ℕ) (rows : List ℕ) (t : Take) (printed : List ℕ) (at : ℕ) → Left s words count rows t printed at rows t printed at 0
+pub begins : (s : Setup) (words : List ℕ) (count : ℕ) (rows : List ℕ) (t : Take) (printed : List ℕ) (at : ℕ) → Left s words count rows t printed at rows t printed at 0
 begins s words count rows t printed at =
     record {
       most = zero-le;
@@ -82,26 +91,28 @@ begins s words count rows t printed at =
       left = λ l e a. ap (λ (n : ℕ). after s (outcome a rows t) (rest words 0 n) .left) (omega (arith, e));
     }
 
-module _ (s : Settings) (words : List ℕ) (count : ℕ) (rows₀ : List ℕ) (t₀ : Take) (printed₀ : List ℕ) (at : ℕ) (rows : List ℕ) (t : Take) (printed : List ℕ) (end k : ℕ)
+module _ (s : Setup) (words : List ℕ) (count : ℕ) (rows₀ : List ℕ) (t₀ : Take) (printed₀ : List ℕ) (at : ℕ)
+    (rows : List ℕ) (t : Take) (printed : List ℕ) (end k : ℕ)
     (so-far : Left s words count rows₀ t₀ printed₀ at rows t printed end k) where
   next : drop ((k + 1) * editWords) words ≡ drop editWords (drop (k * editWords) words)
   next =
       let e : (k + 1) * editWords ≡ k * editWords + editWords = omega arith in
       ap (λ (n : ℕ). drop n words) e ∙ sym (drop-drop editWords (k * editWords) words)
 
-  pub goes-on : (rows' : List ℕ) (t' : Take) (printed' : List ℕ) (end' : ℕ) → k < count → at ≤ length printed₀ → EditDone s (editAt words k) rows t rows' t' printed end printed' end'
-      → Left s words count rows₀ t₀ printed₀ at rows' t' printed' end' (k + 1)
+  pub goes-on : (rows' : List ℕ) (t' : Take) (printed' : List ℕ) (end' : ℕ) → k < count → at ≤ length printed₀
+      → EditDone s (editAt words k) rows t rows' t' printed end printed' end' → Left s words count rows₀ t₀ printed₀ at rows' t' printed' end' (k + 1)
   unfolding editsFrom editLines after
   goes-on rows' t' printed' end' l h d =
       let made = edited s rows t (editAt words k) in
       let line = editLine (editAt words k .row) (made .answer) in
+      let behind = drop editWords (drop (k * editWords) words) in
       record {
         most = omega arith;
         done = so-far .done ++ line;
         done-most = rw (length-append) (omega (arith, so-far .done-most, line-most (editAt words k .row) (made .answer)));
         written = written-more h (so-far .written) (d .line);
-        lines = λ n e a. rw (append-assoc, d .score, d .left, next, same-lines s made a (editsFrom n (drop editWords (drop (k * editWords) words)))) (so-far .lines (suc n) (omega (arith, e)) a);
-        left = λ n e a. rw (d .score, d .left, next, same-left s made a (editsFrom n (drop editWords (drop (k * editWords) words)))) (so-far .left (suc n) (omega (arith, e)) a);
+        lines = λ n e a. rw (append-assoc, d .score, d .left, next, same-lines s made a (editsFrom n behind)) (so-far .lines (suc n) (omega (arith, e)) a);
+        left = λ n e a. rw (d .score, d .left, next, same-left s made a (editsFrom n behind)) (so-far .left (suc n) (omega (arith, e)) a);
       }
 
   pub ends : count ≤ k → EditsDone s (editsFrom count words) rows₀ t₀ t printed₀ at printed end

@@ -1,36 +1,48 @@
--- The parts of an output put together: the rendering, the lines, and the words of what the edits left.
-use mathlib.Core.Path.{_≡_, refl, sym, ap, _∙_}
-use mathlib.Core.List.{List, [], _∷_, _++_}
-use Prim.Native.Nat.{ℕ, zero, suc, _+_, _*_, _≤_, zero-le}
+-- The parts of an output put together: the rendering, the lines, and the files of what the edits left.
+use mathlib.Core.Path.{_≡_, refl, sym, ap}
+use mathlib.Core.List.{List, _∷_}
+use Prim.Native.Nat.{ℕ, zero, suc, _*_, _≤_, zero-le}
 use native.Mathlib.Omega.{arith}
-use lib.IntN.{ℤ}
-use lib.ListN.{length, take, drop, replicate, length-replicate}
-use Rattle.formats.specs.Formats.{lowFirst, samplesOf}
+use lib.ListN.{length, take, replicate, length-replicate}
+use Rattle.formats.specs.Formats.{Written}
+use Rattle.formats.proofs.Writing.{written-more}
 use Rattle.take.specs.declared.Answer.{Answer}
-use Rattle.take.specs.Take.{Settings, Take, lent, keptCount, outcome, renderOf}
+use Rattle.voice.specs.Voice.{keptCount}
+use Rattle.rows.specs.Rows.{Setup, Take, lent}
+use Rattle.take.specs.Take.{outcome, renderOf}
 use Rattle.take.specs.Retakes.{Edit}
-use Rattle.retake_lib.specs.Program.{heading, zeros, frames, settingsWith, settingsOf, blank, played, Output, Written, EditsDone, Played, Ran}
-use Rattle.retake_lib.proofs.Writing.{written-more}
+use Rattle.score.specs.declared.refusal.Refusal.{Refusal}
+use Rattle.inputs.specs.declared.Inputs.{Inputs}
+use Rattle.inputs.specs.Inputs.{zeros, TextsRead}
+use Rattle.outputs.specs.Lines.{heading, refusedLine}
+use Rattle.outputs.specs.declared.files.Files.{Files}
+use Rattle.outputs.specs.declared.files.Files.the-variants.{Nothing}
+use Rattle.outputs.specs.Files.{filesOf, Handed, nothing}
+use Rattle.retake_lib.specs.declared.Lengths.{Lengths}
+use Rattle.retake_lib.specs.Program.{frames, blank, turned, played, outputOf, program}
+use Rattle.retake_lib.specs.Lent.{Bytes, bytesLent, EditsDone, Ran}
 
-pub played-is : (s : Settings) (rows : List ℕ) (t : Take) (es : List Edit) {t' t'' : Take} {a : Answer} {p p' p'' out aux : List ℕ} {e e' : ℕ}
-    → outcome a rows t' ≡ renderOf s rows t → Written heading p 0 p' e → EditsDone s es rows t' t'' p' e p'' e' → out ≡ lowFirst (t'' .out) → aux ≡ lowFirst (t'' .aux)
-    → Played (played s rows t es) p p'' out aux e'
+pub played-is : (s : Setup) (rows : List ℕ) (t : Take) (es : List Edit) {t' t'' : Take} {a : Answer} {p p' p'' first first' second second' : List ℕ} {e e' : ℕ} {w : Files}
+    → outcome a rows t' ≡ renderOf s rows t → Written heading p 0 p' e → EditsDone s es rows t' t'' p' e p'' e'
+    → Handed first first' second second' (filesOf (t'' .out) (t'' .aux)) w
+    → Ran (played s rows t es) (bytesLent p first second) (bytesLent p'' first' second') (record { printed = e'; files = w })
 unfolding played
-played-is s rows t es {t'} {t''} {a} {p} {p'} {p''} {out} {aux} {e} {e'} r w d o x =
+played-is s rows t es {t'} {t''} {a} {p} {p'} {p''} {first} {first'} {second} {second'} {e} {e'} {w} r h d f =
     record {
-      lines = rw (sym r) (written-more zero-le w (d .lines a));
-      out-is = rw (sym r) (o ∙ ap (λ (u : Take). lowFirst (u .out)) (d .left a));
-      aux-is = rw (sym r) (x ∙ ap (λ (u : Take). lowFirst (u .aux)) (d .left a));
+      printed-in = rw (sym r) (written-more zero-le h (d .lines a));
+      files-in = rw (sym r) (rw (d .left a) at f);
     }
 
--- files written at the front of longer bytes
-pub ran-is : {o : Output} {p p' out aux ys zs : List ℕ} {e : ℕ} (f : ℕ) → length ys ≡ f → length zs ≡ f → Played o p p' ys zs e → Ran o p p' out (ys ++ drop f out) aux (zs ++ drop f aux) e f
-ran-is {o} {p} {p'} {out} {aux} {ys} {zs} {e} f y z d =
-    record {
-      printed-in = d .lines;
-      out-in = record { put-in = rw (sym (d .out-is), y); end-is = rw (sym (d .out-is), y) (omega arith) };
-      aux-in = record { put-in = rw (sym (d .aux-is), z); end-is = rw (sym (d .aux-is), z) (omega arith) };
-    }
+-- ---- the program by what was read
+
+pub program-is : (score edits bank : List ℕ) {given : Inputs} {rows words : List ℕ} → TextsRead score edits (length bank) given rows words
+    → program score edits bank ≡ outputOf given rows words bank
+unfolding program
+program-is score edits bank t = rw (t .given-is, t .rows-is, t .words-is)
+
+pub ran-turned : (r : Refusal) {p p' : List ℕ} {e : ℕ} (first second : List ℕ) → Written (refusedLine (r .number) (r .place)) p 0 p' e
+    → Ran (turned r) (bytesLent p first second) (bytesLent p' first second) (record { printed = e; files = Nothing })
+ran-turned r first second w = record { printed-in = w; files-in = nothing refl refl }
 
 -- ---- parts of zeros
 
@@ -47,7 +59,7 @@ pub part-long : {l : List ℕ} (n k : ℕ) → l ≡ zeros n → k ≤ n → k �
 unfolding zeros
 part-long {l} n k e h = rw (part-of-zeros n k e h) (sym (length-replicate k 0))
 
-pub played-blank : (bank : List ℕ) (n : ℕ) (rows : List ℕ) (es : List Edit) {samples : List ℤ} {out aux kept p p' x y : List ℕ} {e : ℕ}
-    → samples ≡ samplesOf bank → out ≡ zeros (n * frames) → aux ≡ zeros (n * frames) → kept ≡ zeros (n * keptCount)
-    → Played (played (settingsWith samples) rows (lent out aux kept) es) p p' x y e → Played (played (settingsOf bank) rows (blank n) es) p p' x y e
-played-blank bank n rows es s o a k h = rw (s, o, a, k) at h
+pub played-blank : (s : Setup) (n : ℕ) (rows : List ℕ) (es : List Edit) {out aux kept : List ℕ} {b b' : Bytes} {l : Lengths}
+    → out ≡ zeros (n * frames) → aux ≡ zeros (n * frames) → kept ≡ zeros (n * keptCount)
+    → Ran (played s rows (lent out aux kept) es) b b' l → Ran (played s rows (blank n) es) b b' l
+played-blank s n rows es o a k h = rw (o, a, k) at h

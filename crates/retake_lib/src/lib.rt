@@ -1,45 +1,37 @@
-// The program `retake` over lent bytes: what it prints, and what its two files hold, by the bytes of the three files that it reads.
-ghost use mathlib.Core.Path.{_≡_};
-ghost use Prim.Native.Nat.{_*_};
-ghost use lib.ListN.{length};
-ghost use Rattle.score.specs.Limits.{rowWords};
-ghost use Rattle.score.specs.Reading.{editWords};
-ghost use Rattle.retake_lib.specs.Program.{zeros, mostRows, mostEdits, program, Ran, RunRoom};
+// The program `retake` over lent bytes: what it prints, and which files it writes, by the bytes of the three files that it reads.
+ghost use lib.ListN.{take};
+ghost use Rattle.inputs.specs.Inputs.{mostText, bankBytes};
+ghost use Rattle.retake_lib.specs.Program.{program};
+ghost use Rattle.retake_lib.specs.Lent.{bytesLent, Ran, RunRoom, ReadInto};
 
-mod inputs;
 mod playing;
-mod printing;
 
+use inputs::BANK_BYTES;
 use inputs::Inputs;
+use inputs::MOST_EDITS;
+use inputs::MOST_ROWS;
+use inputs::MOST_TEXT;
+use outputs::files::Files;
+use outputs::files::NAME_BYTES;
+use outputs::lines::MOST_LINE;
+use outputs::lines::put_refusal;
 use playing::FRAMES;
-use playing::MOST_ROWS;
-use score::limits::ROW_WORDS;
-use score::reader::EDIT_WORDS;
 
-const MOST_EDITS: usize = 32;
+// The bytes that a text and a bank are read into: one more than the most that is taken, so that a longer file is noticed.
+pub const TEXT_ROOM: usize = MOST_TEXT + 1;
 
-// The bytes that are lent for what is printed: a heading and the lines of the most edits, none longer than 63 bytes.
-pub const PRINTED_BYTES: usize = 4096;
+pub const BANK_ROOM: usize = BANK_BYTES + 1;
 
-// The bytes that are lent for a file: the samples of the most rows.
-pub const FILE_BYTES: usize = MOST_ROWS * FRAMES * 4;
+// The bytes that are lent for what is printed: a heading and the lines of the most edits.
+pub const PRINTED_ROOM: usize = MOST_LINE + MOST_EDITS * MOST_LINE;
 
-// How many bytes are to be printed, and how many are to be written to each file: with 0 there is no file.
+// The bytes that are lent for a file: its name and the samples of the most rows.
+pub const FILE_ROOM: usize = NAME_BYTES + MOST_ROWS * FRAMES * 4;
+
+// How many of the lent bytes are to be printed, and where the files stand in those lent for them.
 pub struct Lengths {
     pub printed: usize,
-    pub written: usize,
-}
-
-fn no_rows() -> [u32; MOST_ROWS * ROW_WORDS]
-    ensures { λ r. ⌜ r ≡ zeros (mostRows * rowWords) ⌝ }
-{
-    [0; MOST_ROWS * ROW_WORDS]
-}
-
-fn no_edits() -> [u32; MOST_EDITS * EDIT_WORDS]
-    ensures { λ r. ⌜ r ≡ zeros (mostEdits * editWords) ⌝ }
-{
-    [0; MOST_EDITS * EDIT_WORDS]
+    pub files: Files,
 }
 
 // The program, into bytes enough for every run.
@@ -48,23 +40,23 @@ fn run_into(
     edits: &[u8],
     bank: &[u8],
     printed: &mut [u8],
-    out: &mut [u8],
-    aux: &mut [u8],
+    first: &mut [u8],
+    second: &mut [u8],
 ) -> Lengths
-    requires { ⌜ RunRoom (now printed) (now out) (now aux) ⌝ }
-    ensures { λ r. ⌜ Ran (program (now (score .entry)) (now (edits .entry)) (now (bank .entry))) (now (printed .entry)) (now (printed .exit)) (now (out .entry)) (now (out .exit)) (now (aux .entry)) (now (aux .exit)) (r .printed) (r .written) ⌝ }
+    requires { ⌜ RunRoom (now printed) (now first) (now second) ⌝ }
+    ensures { λ r. ⌜ Ran (program (now (score .entry)) (now (edits .entry)) (now (bank .entry)))
+        (bytesLent (now (printed .entry)) (now (first .entry)) (now (second .entry)))
+        (bytesLent (now (printed .exit)) (now (first .exit)) (now (second .exit))) r ⌝ }
 {
-    let mut rows = no_rows();
-    let mut words = no_edits();
-    let scored = inputs::read_score(score, &mut rows);
-    let listed = inputs::read_edits(edits, &mut words);
-    let given = inputs::settle(scored, listed, bank.len());
+    let mut rows = inputs::no_rows();
+    let mut words = inputs::no_edits();
+    let given = inputs::read(score, edits, bank.len(), &mut rows, &mut words);
     match given {
-        Inputs::Turned(number, place) => {
-            let end = printing::put_refusal(number, place, printed, 0);
+        Inputs::Turned(r) => {
+            let end = put_refusal(r.number, r.place, printed, 0);
             Lengths {
                 printed: end,
-                written: 0,
+                files: Files::Nothing,
             }
         }
         Inputs::Taken(n, count) => playing::play(
@@ -74,22 +66,53 @@ fn run_into(
             &mut rows,
             n,
             printed,
-            out,
-            aux,
+            first,
+            second,
         ),
     }
 }
 
-// The program: by the bytes of `score.txt`, `edits.txt` and `bank.bin`, what is printed and what `out.f32` and `aux.f32` hold.
+// The program: by the bytes of `score.txt`, `edits.txt` and `bank.bin`, what is printed, and the files that are written.
 pub fn run(
     score: &[u8],
     edits: &[u8],
     bank: &[u8],
-    printed: &mut [u8; PRINTED_BYTES],
-    out: &mut [u8; FILE_BYTES],
-    aux: &mut [u8; FILE_BYTES],
+    printed: &mut [u8; PRINTED_ROOM],
+    first: &mut [u8; FILE_ROOM],
+    second: &mut [u8; FILE_ROOM],
 ) -> Lengths
-    ensures { λ r. ⌜ Ran (program (now (score .entry)) (now (edits .entry)) (now (bank .entry))) (now (printed .entry)) (now (printed .exit)) (now (out .entry)) (now (out .exit)) (now (aux .entry)) (now (aux .exit)) (r .printed) (r .written) ⌝ }
+    ensures { λ r. ⌜ Ran (program (now (score .entry)) (now (edits .entry)) (now (bank .entry)))
+        (bytesLent (now (printed .entry)) (now (first .entry)) (now (second .entry)))
+        (bytesLent (now (printed .exit)) (now (first .exit)) (now (second .exit))) r ⌝ }
 {
-    run_into(score, edits, bank, printed, out, aux)
+    run_into(score, edits, bank, printed, first, second)
+}
+
+// The same by the first bytes of three buffers, as many as were read into each.
+pub fn run_read(
+    score: &[u8],
+    score_bytes: usize,
+    edits: &[u8],
+    edits_bytes: usize,
+    bank: &[u8],
+    bank_bytes: usize,
+    printed: &mut [u8; PRINTED_ROOM],
+    first: &mut [u8; FILE_ROOM],
+    second: &mut [u8; FILE_ROOM],
+) -> Lengths
+    requires { ⌜ ReadInto (now score) «score_bytes» mostText ⌝ }
+    requires { ⌜ ReadInto (now edits) «edits_bytes» mostText ⌝ }
+    requires { ⌜ ReadInto (now bank) «bank_bytes» bankBytes ⌝ }
+    ensures { λ r. ⌜ Ran (program (take «score_bytes» (now (score .entry))) (take «edits_bytes» (now (edits .entry))) (take «bank_bytes» (now (bank .entry))))
+        (bytesLent (now (printed .entry)) (now (first .entry)) (now (second .entry)))
+        (bytesLent (now (printed .exit)) (now (first .exit)) (now (second .exit))) r ⌝ }
+{
+    run(
+        &score[..score_bytes],
+        &edits[..edits_bytes],
+        &bank[..bank_bytes],
+        printed,
+        first,
+        second,
+    )
 }

@@ -2,15 +2,24 @@
 ghost use mathlib.Core.Path.{_≡_};
 ghost use Prim.Native.Nat.{_+_, _*_, _≤_};
 ghost use lib.ListN.{length, take};
-ghost use Rattle.score.specs.Limits.{rowWords};
+ghost use Rattle.score.specs.Rows.{rowWords};
 ghost use Rattle.score.specs.Reading.{editWords};
-ghost use Rattle.take.specs.Take.{lent, bankLength, keptCount};
-ghost use Rattle.retake_lib.specs.Program.{settingsWith, settingsOf, editAt, editsFrom, zeros, frames, mostRows, mostLine, blank, played, EditDone, EditsDone, Played, Room, Given, RunRoom, Ran};
+ghost use Rattle.oscillator.specs.Bank.{bankLength};
+ghost use Rattle.voice.specs.Voice.{keptCount};
+ghost use Rattle.rows.specs.Rows.{lent};
+ghost use Rattle.inputs.specs.Inputs.{zeros, mostRows, bankBytes, Given};
+ghost use Rattle.outputs.specs.Lines.{mostLine};
+ghost use Rattle.retake_lib.specs.Program.{setupWith, setupOf, editAt, editsFrom, frames, blank, played};
+ghost use Rattle.retake_lib.specs.Lent.{bytesLent, EditDone, EditsDone, Room, RunRoom, Ran};
 use crate::Lengths;
-use crate::printing::put_answer;
-use crate::printing::put_heading;
-use score::limits::ROW_WORDS;
+use inputs::MOST_ROWS;
+use oscillator::bank::BANK_LENGTH;
+use outputs::files::put_files;
+use outputs::lines::put_answer;
+use outputs::lines::put_heading;
+use rows::Settings;
 use score::reader::EDIT_WORDS;
+use score::rows::ROW_WORDS;
 use voice::KEPT_WORDS;
 use voice::WAVETABLE;
 
@@ -19,10 +28,12 @@ const RATE: u32 = 48000;
 
 pub const FRAMES: usize = 24;
 
-pub const MOST_ROWS: usize = 128;
-
-// The samples of a bank.
-const BANK_LENGTH: usize = 25344;
+// The program's instrument, rate and frames.
+const SETTINGS: Settings = Settings {
+    instrument: WAVETABLE,
+    rate: RATE,
+    frames: FRAMES,
+};
 
 // Edit k of the edits' words, and its line; where the line ends.
 fn edit(
@@ -38,7 +49,10 @@ fn edit(
 ) -> usize
     requires { ⌜ k * editWords + editWords ≤ length (now edits) ⌝ }
     requires { ⌜ at + mostLine ≤ length (now printed) ⌝ }
-    ensures { λ r. ⌜ EditDone (settingsWith (now (bank .entry))) (editAt (now (edits .entry)) k) (now (rows .entry)) (lent (now (out .entry)) (now (aux .entry)) (now (kept .entry))) (now (rows .exit)) (lent (now (out .exit)) (now (aux .exit)) (now (kept .exit))) (now (printed .entry)) at (now (printed .exit)) r ⌝ }
+    ensures { λ r. ⌜ EditDone (setupWith (now (bank .entry))) (editAt (now (edits .entry)) k)
+        (now (rows .entry)) (lent (now (out .entry)) (now (aux .entry)) (now (kept .entry)))
+        (now (rows .exit)) (lent (now (out .exit)) (now (aux .exit)) (now (kept .exit)))
+        (now (printed .entry)) at (now (printed .exit)) r ⌝ }
 {
     let a = k * EDIT_WORDS;
     let position = edits[a];
@@ -50,9 +64,7 @@ fn edit(
         edits[a + 5],
     ];
     let answer = take::edit(
-        WAVETABLE,
-        RATE,
-        FRAMES,
+        SETTINGS,
         bank,
         b"",
         rows,
@@ -79,7 +91,10 @@ fn edit_all(
 ) -> usize
     requires { ⌜ count * editWords ≤ length (now edits) ⌝ }
     requires { ⌜ at + count * mostLine ≤ length (now printed) ⌝ }
-    ensures { λ r. ⌜ EditsDone (settingsWith (now (bank .entry))) (editsFrom count (now (edits .entry))) (now (rows .entry)) (lent (now (out .entry)) (now (aux .entry)) (now (kept .entry))) (lent (now (out .exit)) (now (aux .exit)) (now (kept .exit))) (now (printed .entry)) at (now (printed .exit)) r ⌝ }
+    ensures { λ r. ⌜ EditsDone (setupWith (now (bank .entry))) (editsFrom count (now (edits .entry)))
+        (now (rows .entry)) (lent (now (out .entry)) (now (aux .entry)) (now (kept .entry)))
+        (lent (now (out .exit)) (now (aux .exit)) (now (kept .exit)))
+        (now (printed .entry)) at (now (printed .exit)) r ⌝ }
 {
     let mut end = at;
     let mut k = 0;
@@ -90,7 +105,7 @@ fn edit_all(
     end
 }
 
-// The rendering, the heading, the edits with their lines, and the bytes of the two files; where the lines end.
+// The rendering, the heading, the edits with their lines, and the files of what they left.
 fn play_words(
     bank: &[i16],
     edits: &[u32],
@@ -100,25 +115,23 @@ fn play_words(
     aux: &mut [u32],
     kept: &mut [u32],
     printed: &mut [u8],
-    out_file: &mut [u8],
-    aux_file: &mut [u8],
-) -> usize
-    requires { ⌜ length (now out) ≡ length (now aux) ⌝ }
-    requires { ⌜ Room (length (now out)) count (now edits) (now printed) (now «out_file») (now «aux_file») ⌝ }
-    ensures { λ r. ⌜ Played (played (settingsWith (now (bank .entry))) (now (rows .entry)) (lent (now (out .entry)) (now (aux .entry)) (now (kept .entry))) (editsFrom count (now (edits .entry)))) (now (printed .entry)) (now (printed .exit)) (now («out_file» .exit)) (now («aux_file» .exit)) r ⌝ }
+    first: &mut [u8],
+    second: &mut [u8],
+) -> Lengths
+    requires { ⌜ Room (length (now out)) (length (now aux)) count (now edits) (now printed) (now first) (now second) ⌝ }
+    ensures { λ r. ⌜ Ran (played (setupWith (now (bank .entry))) (now (rows .entry))
+        (lent (now (out .entry)) (now (aux .entry)) (now (kept .entry))) (editsFrom count (now (edits .entry))))
+        (bytesLent (now (printed .entry)) (now (first .entry)) (now (second .entry)))
+        (bytesLent (now (printed .exit)) (now (first .exit)) (now (second .exit))) r ⌝ }
 {
-    take::render(WAVETABLE, RATE, FRAMES, bank, b"", rows, out, aux, kept);
+    take::render(SETTINGS, bank, b"", rows, out, aux, kept);
     let at = put_heading(printed);
     let end = edit_all(bank, edits, count, rows, out, aux, kept, printed, at);
-    formats::put_words(out, out_file);
-    formats::put_words(aux, aux_file);
-    end
-}
-
-fn no_bank() -> [i16; BANK_LENGTH]
-    ensures { λ r. ⌜ length r ≡ bankLength ⌝ }
-{
-    [0; BANK_LENGTH]
+    let files = put_files(out, aux, first, second);
+    Lengths {
+        printed: end,
+        files,
+    }
 }
 
 fn no_samples() -> [u32; MOST_ROWS * FRAMES]
@@ -133,7 +146,50 @@ fn no_kept() -> [u32; MOST_ROWS * KEPT_WORDS]
     [0; MOST_ROWS * KEPT_WORDS]
 }
 
-// The same of n rows, from the bank's bytes; how much is to be printed and written.
+// The same of n rows, into a take that is all 0.
+fn play_rows(
+    bank: &[i16],
+    edits: &[u32],
+    count: usize,
+    rows: &mut [u32],
+    n: usize,
+    printed: &mut [u8],
+    first: &mut [u8],
+    second: &mut [u8],
+) -> Lengths
+    requires { ⌜ Given n count (now rows) (now edits) ⌝ }
+    requires { ⌜ RunRoom (now printed) (now first) (now second) ⌝ }
+    ensures { λ r. ⌜ Ran (played (setupWith (now (bank .entry))) (take (n * rowWords) (now (rows .entry))) (blank n) (editsFrom count (now (edits .entry))))
+        (bytesLent (now (printed .entry)) (now (first .entry)) (now (second .entry)))
+        (bytesLent (now (printed .exit)) (now (first .exit)) (now (second .exit))) r ⌝ }
+{
+    let mut out = no_samples();
+    let mut aux = no_samples();
+    let mut kept = no_kept();
+    let samples = n * FRAMES;
+    let words = n * KEPT_WORDS;
+    let used = n * ROW_WORDS;
+    play_words(
+        bank,
+        edits,
+        count,
+        &mut rows[..used],
+        &mut out[..samples],
+        &mut aux[..samples],
+        &mut kept[..words],
+        printed,
+        first,
+        second,
+    )
+}
+
+fn no_bank() -> [i16; BANK_LENGTH]
+    ensures { λ r. ⌜ length r ≡ bankLength ⌝ }
+{
+    [0; BANK_LENGTH]
+}
+
+// The same from the bank's bytes.
 pub fn play(
     bank: &[u8],
     edits: &[u32],
@@ -141,36 +197,17 @@ pub fn play(
     rows: &mut [u32],
     n: usize,
     printed: &mut [u8],
-    out_file: &mut [u8],
-    aux_file: &mut [u8],
+    first: &mut [u8],
+    second: &mut [u8],
 ) -> Lengths
-    requires { ⌜ Given n count (now bank) (now edits) (now rows) ⌝ }
-    requires { ⌜ RunRoom (now printed) (now «out_file») (now «aux_file») ⌝ }
-    ensures { λ r. ⌜ Ran (played (settingsOf (now (bank .entry))) (take (n * rowWords) (now (rows .entry))) (blank n) (editsFrom count (now (edits .entry)))) (now (printed .entry)) (now (printed .exit)) (now («out_file» .entry)) (now («out_file» .exit)) (now («aux_file» .entry)) (now («aux_file» .exit)) (r .printed) (r .written) ⌝ }
+    requires { ⌜ length (now bank) ≡ bankBytes ⌝ }
+    requires { ⌜ Given n count (now rows) (now edits) ⌝ }
+    requires { ⌜ RunRoom (now printed) (now first) (now second) ⌝ }
+    ensures { λ r. ⌜ Ran (played (setupOf (now (bank .entry))) (take (n * rowWords) (now (rows .entry))) (blank n) (editsFrom count (now (edits .entry))))
+        (bytesLent (now (printed .entry)) (now (first .entry)) (now (second .entry)))
+        (bytesLent (now (printed .exit)) (now (first .exit)) (now (second .exit))) r ⌝ }
 {
     let mut samples = no_bank();
     formats::samples_of(bank, &mut samples);
-    let mut out = no_samples();
-    let mut aux = no_samples();
-    let mut kept = no_kept();
-    let frames = n * FRAMES;
-    let words = n * KEPT_WORDS;
-    let used = n * ROW_WORDS;
-    let bytes = frames * 4;
-    let end = play_words(
-        &samples,
-        edits,
-        count,
-        &mut rows[..used],
-        &mut out[..frames],
-        &mut aux[..frames],
-        &mut kept[..words],
-        printed,
-        &mut out_file[..bytes],
-        &mut aux_file[..bytes],
-    );
-    Lengths {
-        printed: end,
-        written: bytes,
-    }
+    play_rows(&samples, edits, count, rows, n, printed, first, second)
 }

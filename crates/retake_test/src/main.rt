@@ -4,36 +4,27 @@
 // The cases, in their order: document 01's example; no edits; refused edits among others; names in another order; rows that hold; 128 rows and
 // 32 edits; the score refused by 10 (three ways), 6, 11 (two), 9, 12, 11, 10 and 12 for its length; the edits by 10 (three), 11, 12, 11, 12
 // for their length; the bank (three); and which of two or three refusals comes first.
+use inputs::BANK_BYTES;
 use libc::STDIN_FILENO;
-use libc::STDOUT_FILENO;
-ghost use Prim.Native.Nat.{_≤_, _<_};
+use outputs::files::Files;
+use outputs::files::Place;
+use retake_lib::BANK_ROOM;
+use retake_lib::FILE_ROOM;
+use retake_lib::PRINTED_ROOM;
+use trial::fill_bank;
+use trial::say;
+use trial::say_number;
+use trial::sum_of;
+ghost use Prim.Native.Nat.{_+_, _≤_, _<_};
 ghost use lib.ListN.{length};
-
-const BANK_BYTES: usize = 50688;
-
-// A full bank and a byte more.
-const BANK_ROOM: usize = BANK_BYTES + 1;
+ghost use Rattle.inputs.specs.Inputs.{bankBytes};
+ghost use Rattle.outputs.specs.Files.{Within};
 
 const INPUT_ROOM: usize = 65536;
 
-fn say(text: &[u8]) {
-    io::write_all(STDOUT_FILENO, text);
-}
-
-// The bank's bytes: the high bytes of s = 1664525 s + 1013904223 mod 2^32, from s = 1 on.
-fn fill_bank(bank: &mut [u8]) {
-    let mut s: u64 = 1;
-    let mut i = 0;
-    while i < bank.len() {
-        s = (1664525 * s + 1013904223) % 4294967296;
-        bank[i] = (s / 16777216) as u8;
-        i += 1;
-    }
-}
-
 // As many of the bank's bytes as the case asks for.
 fn bank_length(how: u8) -> usize
-    ensures { λ r. ⌜ r ≤ 50689 ⌝ }
+    ensures { λ r. ⌜ r ≤ bankBytes + 1 ⌝ }
 {
     if how == b'=' {
         return BANK_BYTES;
@@ -47,44 +38,42 @@ fn bank_length(how: u8) -> usize
     0
 }
 
-// A sum that tells files apart: h = 65599 h + byte mod 4294967291.
-fn sum_of(bytes: &[u8]) -> u64 {
-    let mut h: u64 = 0;
-    let mut i = 0;
-    while i < bytes.len() {
-        h = (65599 * h + wide(bytes[i])) % 4294967291;
-        i += 1;
-    }
-    h
-}
-
-fn wide(b: u8) -> u64
-    ensures { λ r. ⌜ r < 256 ⌝ }
-{
-    b as u64
-}
-
 // The files' length and sums.
-fn show_files(out: &[u8], aux: &[u8]) {
+fn show_placed(first: &[u8], place: Place, second: &[u8], other: Place)
+    requires { ⌜ Within place (now first) ⌝ }
+    requires { ⌜ Within other (now second) ⌝ }
+{
+    let start = place.name;
+    let end = place.end;
+    let from = other.name;
+    let to = other.end;
     say(b"files ");
-    io::print_decimal(STDOUT_FILENO, out.len() as u64);
+    say_number((end - start) as u64);
     say(b" ");
-    io::print_decimal(STDOUT_FILENO, sum_of(out));
+    say_number(sum_of(&first[start..end]));
     say(b" ");
-    io::print_decimal(STDOUT_FILENO, sum_of(aux));
+    say_number(sum_of(&second[from..to]));
     say(b"\n");
 }
 
+fn show_files(first: &[u8; FILE_ROOM], place: Place, second: &[u8; FILE_ROOM], other: Place)
+    requires { ⌜ Within place (now first) ⌝ }
+    requires { ⌜ Within other (now second) ⌝ }
+{
+    show_placed(first, place, second, other);
+}
+
 fn run_case(score: &[u8], edits: &[u8], bank: &[u8]) {
-    let mut printed = [0u8; retake_lib::PRINTED_BYTES];
-    let mut out = [0u8; retake_lib::FILE_BYTES];
-    let mut aux = [0u8; retake_lib::FILE_BYTES];
-    let r = retake_lib::run(score, edits, bank, &mut printed, &mut out, &mut aux);
-    let p = r.printed;
-    let w = r.written;
-    say(&printed[..p]);
-    if w > 0 {
-        show_files(&out[..w], &aux[..w]);
+    let mut printed = [0u8; PRINTED_ROOM];
+    let mut first = [0u8; FILE_ROOM];
+    let mut second = [0u8; FILE_ROOM];
+    let r = retake_lib::run(score, edits, bank, &mut printed, &mut first, &mut second);
+    let end = r.printed;
+    let files = r.files;
+    say(&printed[..end]);
+    match files {
+        Files::Nothing => {}
+        Files::Both(place, other) => show_files(&first, place, &second, other),
     }
     say(b"\n");
 }
@@ -122,7 +111,7 @@ fn after(input: &[u8], end: usize) -> usize
 // Runs the case that starts at `from`; where the next one starts.
 fn run_at(input: &[u8], bank: &[u8], from: usize) -> usize
     requires { ⌜ from < length (now input) ⌝ }
-    requires { ⌜ 50689 ≤ length (now bank) ⌝ }
+    requires { ⌜ bankBytes < length (now bank) ⌝ }
     ensures { λ r. ⌜ (from < r) × (r ≤ length (now (input .entry))) ⌝ }
 {
     let middle = text_end(input, from);
@@ -140,7 +129,7 @@ fn run_at(input: &[u8], bank: &[u8], from: usize) -> usize
 }
 
 fn run_all(input: &[u8], bank: &[u8])
-    requires { ⌜ 50689 ≤ length (now bank) ⌝ }
+    requires { ⌜ bankBytes < length (now bank) ⌝ }
 {
     let mut from = 0;
     while from < input.len() {

@@ -1,10 +1,10 @@
 -- `formats::put_digits` meets its contract: a digit goes behind those of the quotient by ten (put-next).
-use Prim.Native.Nat.{_-_, _/_, ℕ, _<_}
+use Prim.Native.Nat.{ℕ, _<_}
 use native.Mathlib.Omega.{arith}
 use borrow.Author.Needs.{needs}
 use borrow.Fn.Kinds.{In}
 use borrow.Fn.PlainCycle.{Measures, is, falls, and}
-use Rattle.formats.proofs.Bytes.{digits-most, put-zero, put-last, put-next}
+use Rattle.formats.proofs.Bytes.{put-zero, put-last, next-fits, put-next}
 use Rattle.formats.proofs.+put_digits.{statement}
 use Rattle.formats.proofs.+put_digits.Tie.{close}
 use Rattle.formats.proofs.put_digits.Reads as put-digits
@@ -126,13 +126,21 @@ put-digits-slice-write-text-3 : (t : ℕ) → put-digits-lts.Need-slice-write-te
   put-digits-below t,
   put-digits.Post,
 ) (put-digits-at t) put-digits.Post
-put-digits-slice-write-text-3 t c = omega (arith, digits-most (c .before .before .before .before .before .before .before .args .k - 1) (c .before .before .before .before .before .before .before .args .n / 10), c .before .before .put-digits .ensures .0, c .before .before .put-digits .kept .1 .1 .0)
+put-digits-slice-write-text-3 t c =
+    let tenth = c .before .before in
+    let tests = tenth .before .before in
+    let r = next-fits _ _ _ _ _ _ (tests .before .if1 .left) (tests .if2 .left) (omega arith) (tenth .put-digits .ensures) in
+    omega (arith, r, tenth .put-digits .kept .1 .1 .0)
 
 put-digits-add-result-3 : (t : ℕ) → put-digits-lts.Need-add-result-3 (
   put-digits-below t,
   put-digits.Post,
 ) (put-digits-at t) put-digits.Post
-put-digits-add-result-3 t c = record { fits = omega (arith, digits-most (c .before .before .before .before .before .before .before .args .k - 1) (c .before .before .before .before .before .before .before .args .n / 10), c .before .before .put-digits .ensures .0) }
+put-digits-add-result-3 t c =
+    let tenth = c .before .before in
+    let tests = tenth .before .before in
+    let r = next-fits _ _ _ _ _ _ (tests .before .if1 .left) (tests .if2 .left) (omega arith) (tenth .put-digits .ensures) in
+    record { fits = omega (arith, r) }
 
 put-digits-same-length-3 : (t : ℕ) → put-digits-lts.Need-same-length-3 (
   put-digits-below t,
@@ -144,7 +152,10 @@ put-digits-returns-3 : (t : ℕ) → put-digits-lts.Need-returns-3 (
   put-digits-below t,
   put-digits.Post,
 ) (put-digits-at t) put-digits.Post
-put-digits-returns-3 t c = put-next _ _ _ _ _ _ (c .before .before .before .before .before .if1 .left) (c .before .before .before .before .if2 .left) (omega arith) (c .before .before .put-digits .ensures .0) (c .before .before .put-digits .ensures .1)
+put-digits-returns-3 t c =
+    let tenth = c .before .before in
+    let tests = tenth .before .before in
+    put-next _ _ _ _ _ _ (tests .before .if1 .left) (tests .if2 .left) (omega arith) (tenth .put-digits .ensures)
 
 pub +put-digits-spec : {M : Type 1} → statement M
 +put-digits-spec = close μ-put-digits λ t. put-digits-lts.spec (

@@ -1,4 +1,4 @@
--- `formats::i16_of` meets its contract.
+-- `formats::i16_of` meets its contract: below 32768 the number is the sample, above it is 65536 more than the sample.
 use native.Mathlib.Omega.{arith}
 use borrow.Author.Needs.{needs}
 use Rattle.formats.proofs.Bytes.{below-fits, above-is, below-is}

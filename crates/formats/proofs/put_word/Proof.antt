@@ -1,4 +1,4 @@
--- `formats::put_word` meets its contract.
+-- `formats::put_word` meets its contract: four bytes in the place of four.
 use borrow.Author.Needs.{needs}
 use Rattle.formats.proofs.Bytes.{four}
 use Rattle.formats.proofs.put_word.Statement.{statement}

@@ -1,4 +1,4 @@
--- `formats::put_words` meets its contract.
+-- `formats::put_words` meets its contract: the bytes so far, then those of the words that are left, are the whole (WordsLeft).
 use mathlib.Core.Path.{_≡_}
 use native.Mathlib.Omega.{arith}
 use Prim.Native.Nat.{_+_, _*_, _-_}

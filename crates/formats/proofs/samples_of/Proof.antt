@@ -1,4 +1,4 @@
--- `formats::samples_of` meets its contract.
+-- `formats::samples_of` meets its contract: the samples so far, then those of the bytes that are left, are the whole (SamplesLeft).
 use mir.Facts.{toZ-ofZ}
 use native.Mathlib.Omega.{arith}
 use Prim.Native.Nat.{_-_}

@@ -1,4 +1,4 @@
--- `retake_test::run_all` meets its contract.
+-- `retake_test::run_all` meets its contract: the next case starts further on, within the input.
 use lib.ListN.{length}
 use borrow.Author.Needs.{needs}
 use Prim.Native.Nat.{_≤_, _-_}

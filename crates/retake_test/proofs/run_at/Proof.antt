@@ -1,4 +1,4 @@
--- `retake_test::run_at` meets its contract.
+-- `retake_test::run_at` meets its contract: the parts of the input lie within it, one behind the other.
 use lib.Seq.{length-take-le}
 use native.Mathlib.Omega.{arith}
 use mathlib.Core.Path.{sym}
@@ -46,7 +46,10 @@ part-run-case-end-2 : tie.Need-part-run-case-end-2
 part-run-case-end-2 c = search needs
 
 slice-aggregate-run-case : tie.Need-slice-aggregate-run-case
-slice-aggregate-run-case c = sym (length-take-le (c .before .before .before .bank-length .result) (c .before .before .before .before .before .before .before .before .before .before .before .args .bank .now) (omega arith))
+slice-aggregate-run-case c =
+    let bank = c .before .before .before in
+    let args = bank .before .before .before .before .before .before .before .before .args in
+    sym (length-take-le (bank .bank-length .result) (args .bank .now) (omega arith))
 
 run-case-requires : tie.Need-run-case-requires
 run-case-requires c κs = search needs

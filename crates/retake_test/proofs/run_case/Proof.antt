@@ -1,6 +1,7 @@
--- `retake_test::run_case` meets its contract.
+-- `retake_test::run_case` meets its contract: what is printed and what is handed over lies within the lent bytes.
 use borrow.Author.Needs.{needs}
-use Rattle.retake_lib.proofs.Writing.{written-within, written-part}
+use Rattle.formats.proofs.Writing.{written-within, written-part}
+use Rattle.outputs.proofs.Handing.{handed-within}
 use Rattle.retake_test.proofs.run_case.Statement.{statement}
 use Rattle.retake_test.proofs.run_case.Tie as tie
 
@@ -16,20 +17,14 @@ slice-aggregate-say c = written-part _ _ _ _ (c .before .run .ensures .printed-i
 say-requires : tie.Need-say-requires
 say-requires c κs = search needs
 
-array-share-prefix-out : tie.Need-array-share-prefix-out
-array-share-prefix-out c = written-within _ _ _ _ (c .before .before .before .run .ensures .out-in)
+enum-told : tie.Need-enum-told
+enum-told c = search needs
 
-slice-aggregate-show-files : tie.Need-slice-aggregate-show-files
-slice-aggregate-show-files c = written-part _ _ _ _ (c .before .before .before .before .run .ensures .out-in)
-
-array-share-prefix-aux : tie.Need-array-share-prefix-aux
-array-share-prefix-aux c = written-within _ _ _ _ (c .before .before .before .before .run .ensures .aux-in)
-
-slice-aggregate-show-files-2 : tie.Need-slice-aggregate-show-files-2
-slice-aggregate-show-files-2 c = written-part _ _ _ _ (c .before .before .before .before .before .run .ensures .aux-in)
+enum-known-files : tie.Need-enum-known-files
+enum-known-files c = search needs
 
 show-files-requires : tie.Need-show-files-requires
-show-files-requires c κs = search needs
+show-files-requires c κs = handed-within _ _ (c .before .before .before .before .before .before .before .run .ensures .files-in) (c .before .before .before .files .given .1)
 
 slice-aggregate-say-2 : tie.Need-slice-aggregate-say-2
 slice-aggregate-say-2 c = search needs
@@ -48,10 +43,8 @@ run-case-spec =
     array-share-prefix-printed
     slice-aggregate-say
     say-requires
-    array-share-prefix-out
-    slice-aggregate-show-files
-    array-share-prefix-aux
-    slice-aggregate-show-files-2
+    enum-told
+    enum-known-files
     show-files-requires
     slice-aggregate-say-2
     say-requires-2

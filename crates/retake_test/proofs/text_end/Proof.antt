@@ -1,9 +1,7 @@
--- `retake_test::text_end` meets its contract.
-use lib.ListN.{length, length-set}
+-- `retake_test::text_end` meets its contract: the place stays within the input.
+use lib.ListN.{length}
 use borrow.Author.Needs.{needs}
-use native.Mathlib.Omega.{arith}
-use Prim.Native.Nat.{_≤_, _<_, _-_}
-use mathlib.Core.Path.{_≡_}
+use Prim.Native.Nat.{_≤_, _-_}
 use Rattle.retake_test.proofs.text_end.Statement.{statement}
 use Rattle.retake_test.proofs.text_end.Tie as tie
 

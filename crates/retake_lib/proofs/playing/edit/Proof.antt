@@ -1,7 +1,8 @@
--- `retake_lib::playing::edit` meets its contract.
+-- `retake_lib::playing::edit` meets its contract: the six words are those of edit k (edit-done).
 use native.Mathlib.Omega.{arith}
 use Prim.Native.Nat.{_*_}
 use borrow.Author.Needs.{needs}
+use Rattle.score.specs.Reading.{editWords}
 use Rattle.retake_lib.proofs.Editing.{edit-done}
 use Rattle.retake_lib.proofs.playing.edit.Statement.{statement}
 use Rattle.retake_lib.proofs.playing.edit.Tie as tie
@@ -64,7 +65,9 @@ slice-aggregate-edit : tie.Need-slice-aggregate-edit
 slice-aggregate-edit c = search needs
 
 cast-edit : tie.Need-cast-edit
-cast-edit c = omega (arith, c .before .before .before .before .before .before .before .before .before .before .before .before .before .shared-slice-known .given (c .before .before .before .before .before .before .before .before .before .before .before .before .before .before .args .k * 6))
+cast-edit c =
+    let words = c .before .before .before .before .before .before .before .before .before .before .before .before .before in
+    omega (arith, words .shared-slice-known .given (words .before .args .k * editWords))
 
 edit-requires : tie.Need-edit-requires
 edit-requires c κs = search needs
@@ -88,7 +91,11 @@ same-length-5 : tie.Need-same-length-5
 same-length-5 c = search needs
 
 returns : tie.Need-returns
-returns c = edit-done (c .before .before .before .before .before .before .before .before .before .before .before .before .before .before .before .before .before .before .before .before .before .before .before .before .before .before .before .before .before .before .args .edits .now) (c .before .before .before .before .before .before .before .before .before .before .before .before .before .before .before .before .before .before .before .before .before .before .before .before .before .before .before .before .before .before .args .k) _ _ _ _ _ _ _ _ _ _ (c .before .before .before .before .before .before .before .before .before .before .before .before .edit .ensures) (c .before .before .put-answer .ensures)
+returns c =
+    let line = c .before .before in
+    let made = line .before .before .before .before .before .before .before .before .before .before in
+    let args = made .before .before .before .before .before .before .before .before .before .before .before .before .before .before .before .before .before .before .args in
+    edit-done (args .edits .now) (args .k) _ _ _ _ _ _ _ _ _ _ (made .edit .ensures) (line .put-answer .ensures)
 
 pub edit-spec : {M : Type 1} → statement M
 edit-spec =

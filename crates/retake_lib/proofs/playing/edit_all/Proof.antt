@@ -1,15 +1,17 @@
--- `retake_lib::playing::edit_all` meets its contract.
+-- `retake_lib::playing::edit_all` meets its contract: what is left to edit and to print is the rest of the whole (Left); lengths stay (Same).
 use borrow.Author.Needs.{needs}
 use native.Mathlib.Omega.{arith}
 use Prim.Native.Nat.{_-_}
-use Rattle.retake_lib.specs.Program.{settingsWith}
-use Rattle.take.specs.Take.{lent}
+use Rattle.retake_lib.specs.Program.{setupWith}
+use Rattle.rows.specs.Rows.{lent}
 use Rattle.retake_lib.proofs.Editing.{Left, begins, goes-on, ends, Same}
 use Rattle.retake_lib.proofs.playing.edit_all.Statement.{statement}
 use Rattle.retake_lib.proofs.playing.edit_all.Tie as tie
 
 abbrev Inv-loop : tie.InvT-loop
-Inv-loop bank edits count rows₀ out₀ aux₀ kept₀ printed₀ at end₀ k₀ rows out aux kept printed end k = Same rows₀ out₀ aux₀ kept₀ printed₀ rows out aux kept printed × Left (settingsWith bank) edits count rows₀ (lent out₀ aux₀ kept₀) printed₀ at rows (lent out aux kept) printed end k
+Inv-loop bank edits count rows₀ out₀ aux₀ kept₀ printed₀ at end₀ k₀ rows out aux kept printed end k =
+    Same rows₀ out₀ aux₀ kept₀ printed₀ rows out aux kept printed
+    × Left (setupWith bank) edits count rows₀ (lent out₀ aux₀ kept₀) printed₀ at rows (lent out aux kept) printed end k
 
 abbrev μ-loop : tie.MeasureT-loop
 μ-loop bank edits count rows₀ out₀ aux₀ kept₀ printed₀ at end₀ k₀ rows out aux kept printed end k = count - k
@@ -18,7 +20,10 @@ loop-holds : tie.Need-loop-holds Inv-loop μ-loop
 loop-holds c = (search needs, begins _ _ _ _ _ _ _)
 
 edit-requires : tie.Need-edit-requires Inv-loop μ-loop
-edit-requires c κs = (omega (arith, c .before .before .before .before .before .before .loop .inv .1 .most), omega (arith, c .before .before .before .before .before .before .loop .inv .1 .done-most, c .before .before .before .before .before .before .loop .inv .1 .written .end-is, c .before .before .before .before .before .before .loop .inv .0 .printed-long))
+edit-requires c κs =
+    let kept = c .before .before .before .before .before .before .loop .inv .0 in
+    let left = c .before .before .before .before .before .before .loop .inv .1 in
+    (omega (arith, left .most), omega (arith, left .done-most, left .written .end-is, kept .printed-long))
 
 add-k : tie.Need-add-k Inv-loop μ-loop
 add-k c = search needs
@@ -27,7 +32,10 @@ loop-less : tie.Need-loop-less Inv-loop μ-loop
 loop-less c = search needs
 
 loop-again : tie.Need-loop-again Inv-loop μ-loop
-loop-again c = (search needs, goes-on _ _ _ _ _ _ _ _ _ _ _ _ (c .before .before .before .before .before .before .before .before .before .before .before .before .before .before .before .before .before .loop .inv .1) _ _ _ _ (c .before .before .before .before .before .before .before .before .before .before .before .before .before .before .before .before .loop-test .taken) (omega arith) (c .before .before .before .before .before .before .before .before .before .before .edit .ensures))
+loop-again c =
+    let made = c .before .before .before .before .before .before .before .before .before .before in
+    let test = made .before .before .before .before .before .before in
+    (search needs, goes-on _ _ _ _ _ _ _ _ _ _ _ _ (test .before .loop .inv .1) _ _ _ _ (test .loop-test .taken) (omega arith) (made .edit .ensures))
 
 same-length : tie.Need-same-length Inv-loop μ-loop
 same-length c = search needs

@@ -1,6 +1,6 @@
--- `retake_lib::playing::no_samples` meets its contract.
+-- `retake_lib::playing::no_samples` meets its contract: words of 0.
 use mathlib.Core.Path.{refl}
-use Rattle.retake_lib.specs.Program.{zeros}
+use Rattle.inputs.specs.Inputs.{zeros}
 use Rattle.retake_lib.proofs.playing.no_samples.Statement.{statement}
 use Rattle.retake_lib.proofs.playing.no_samples.Tie as tie
 

@@ -1,4 +1,4 @@
--- `retake_lib::playing::play_words` meets its contract.
+-- `retake_lib::playing::play_words` meets its contract: the rendering, the heading, the edits and the files put together (played-is).
 use native.Mathlib.Omega.{arith}
 use borrow.Author.Needs.{needs}
 use Rattle.retake_lib.proofs.Outputs.{played-is}
@@ -17,11 +17,15 @@ put-heading-requires c κs = search needs
 edit-all-requires : tie.Need-edit-all-requires
 edit-all-requires c κs = search needs
 
-put-words-requires : tie.Need-put-words-requires
-put-words-requires c κs = omega (arith, c .before .before .before .before .before .before .before .before .before .before .before .before .before .before .before .before .before .before .before .before .before .before .before .before .before .before .before .before .before .before .before .before .before .before .before .before .before .before .before .before .before .before .pre .1 .out-long, c .before .before .before .before .before .before .before .before .before .before .before .before .edit-all .kept .1 .1 .1 .1 .0, c .before .before .before .before .before .before .before .before .before .before .before .before .before .before .before .before .before .before .before .before .before .before .before .before .before .before .before .before .render .kept .1 .1 .1 .1 .1 .1 .0)
-
-put-words-requires-2 : tie.Need-put-words-requires-2
-put-words-requires-2 c κs = omega (arith, c .before .before .before .before .before .before .before .before .before .before .before .before .before .before .before .before .before .before .before .before .before .before .before .before .before .before .before .before .before .before .before .before .before .before .before .before .before .before .before .before .before .before .before .before .before .before .before .pre .0, c .before .before .before .before .before .before .before .before .before .before .before .before .before .before .before .before .before .before .before .before .before .before .before .before .before .before .before .before .before .before .before .before .before .before .before .before .before .before .before .before .before .before .before .before .before .before .before .pre .1 .aux-long, c .before .before .before .before .before .before .before .before .before .before .before .before .before .before .before .before .before .edit-all .kept .1 .1 .1 .1 .1 .0, c .before .before .before .before .before .before .before .before .before .before .before .before .before .before .before .before .before .before .before .before .before .before .before .before .before .before .before .before .before .before .before .before .before .render .kept .1 .1 .1 .1 .1 .1 .1 .0)
+put-files-requires : tie.Need-put-files-requires
+put-files-requires c κs =
+    let edits = c .before .before .before .before .before .before .before .before .before .before .before .before .before .before in
+    let heading = edits .before .before .before .before .before .before .before .before in
+    let rendered = heading .before .before .before .before .before .before .before .before in
+    let room = rendered .before .before .before .before .before .before .before .before .before .before .before .before .before .before .pre in
+    let more = edits .edit-all in
+    let made = rendered .render in
+    (omega (arith, room .first-room, more .kept .1 .1 .1 .1 .0, made .kept .1 .1 .1 .1 .0), omega (arith, room .second-room, more .kept .1 .1 .1 .1 .1 .0, made .kept .1 .1 .1 .1 .1 .0))
 
 same-length : tie.Need-same-length
 same-length c = search needs
@@ -45,7 +49,12 @@ same-length-7 : tie.Need-same-length-7
 same-length-7 c = search needs
 
 returns : tie.Need-returns
-returns c = played-is _ _ _ _ (c .before .before .before .before .before .before .before .before .before .before .before .before .before .before .before .before .before .before .before .before .before .before .before .before .before .before .before .before .before .before .before .before .before .before .before .before .render .ensures) (c .before .before .before .before .before .before .before .before .before .before .before .before .before .before .before .before .before .before .before .before .before .before .before .before .before .before .before .before .put-heading .ensures) (c .before .before .before .before .before .before .before .before .before .before .before .before .before .before .before .before .before .before .before .before .edit-all .ensures) (c .before .before .before .before .before .before .before .put-words .ensures) (c .before .before .put-words2 .ensures)
+returns c =
+    let files = c .before .before .before .before in
+    let edits = files .before .before .before .before .before .before .before .before .before .before .before .before .before .before .before in
+    let heading = edits .before .before .before .before .before .before .before .before in
+    let rendered = heading .before .before .before .before .before .before .before .before in
+    played-is _ _ _ _ (rendered .render .ensures) (heading .put-heading .ensures) (edits .edit-all .ensures) (files .put-files .ensures)
 
 pub play-words-spec : {M : Type 1} → statement M
 play-words-spec =
@@ -55,8 +64,7 @@ play-words-spec =
     render-requires
     put-heading-requires
     edit-all-requires
-    put-words-requires
-    put-words-requires-2
+    put-files-requires
     same-length
     same-length-2
     same-length-3

@@ -1,0 +1,3 @@
+// What the program hands over: the lines that it prints, and the files that it writes.
+pub mod files;
+pub mod lines;

@@ -1,0 +1,55 @@
+-- `trial::sum_of` meets its contract: the sum stays below its modulus.
+use lib.ListN.{length}
+use borrow.Author.Needs.{needs}
+use Prim.Native.Nat.{_≤_, _<_, _-_}
+use Rattle.trial.proofs.sum_of.Statement.{statement}
+use Rattle.trial.proofs.sum_of.Tie as tie
+
+abbrev Inv-loop : tie.InvT-loop
+Inv-loop bytes h₀ i₀ h i = (i ≤ length bytes) × (h < 4294967291)
+
+abbrev μ-loop : tie.MeasureT-loop
+μ-loop bytes h₀ i₀ h i = length bytes - i
+
+loop-holds : tie.Need-loop-holds Inv-loop μ-loop
+loop-holds c = search needs
+
+mul-h : tie.Need-mul-h Inv-loop μ-loop
+mul-h c = search needs
+
+shared-slice-read-wide : tie.Need-shared-slice-read-wide Inv-loop μ-loop
+shared-slice-read-wide c = search needs
+
+wide-requires : tie.Need-wide-requires Inv-loop μ-loop
+wide-requires c κs = search needs
+
+add-h : tie.Need-add-h Inv-loop μ-loop
+add-h c = search needs
+
+add-i : tie.Need-add-i Inv-loop μ-loop
+add-i c = search needs
+
+loop-less : tie.Need-loop-less Inv-loop μ-loop
+loop-less c = search needs
+
+loop-again : tie.Need-loop-again Inv-loop μ-loop
+loop-again c = search needs
+
+returns : tie.Need-returns Inv-loop μ-loop
+returns c = search needs
+
+pub sum-of-spec : {M : Type 1} → statement M
+sum-of-spec =
+    tie.close
+    (tie.spec
+    Inv-loop
+    μ-loop
+    loop-holds
+    mul-h
+    shared-slice-read-wide
+    wide-requires
+    add-h
+    add-i
+    loop-less
+    loop-again
+    returns)
