@@ -2,3 +2,4 @@
 pub mod Magnitude
 pub mod Frames
 pub mod Rising
+pub mod PitchEntries
