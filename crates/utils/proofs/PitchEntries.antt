@@ -5,8 +5,8 @@ use mathlib.Core.Logic.{_⊎_, inl, inr}
 use mathlib.Core.Bool.{Bool, true, false, cond, _&&_, true≢false}
 use mathlib.Core.List.{List}
 use Prim.Native.Nat.{ℕ, zero, suc, _+_, _-_, _*_, _/_, _%_, _^_, _≤_, _<_, zero-le, compare}
-use native.Mathlib.Nat.{zero-lt-suc, le-trans, le-of-eq, lt-of-lt-of-le, lt-of-le-of-lt, lt-of-not-le, not-le-of-lt, le-of-suc-le-suc, min-le-left, min-eq-left, mul-assoc, mul-comm, mul-one, zero-mul}
-use native.Mathlib.Nat.{mod-le, mod-lt, mod-one, zero-mod, div-lt-iff-lt-mul, mul-lt-mul-of-pos-right, lt-of-mul-lt-mul-right}
+use native.Mathlib.Nat.{zero-lt-suc, le-trans, le-of-eq, lt-of-lt-of-le, lt-of-le-of-lt, lt-of-not-le, not-le-of-lt, le-of-suc-le-suc, min-le-left, min-eq-left}
+use native.Mathlib.Nat.{mul-assoc, mul-comm, mul-one, zero-mul, mod-le, mod-lt, mod-one, zero-mod, div-lt-iff-lt-mul, mul-lt-mul-of-pos-right, lt-of-mul-lt-mul-right}
 use native.Mathlib.Omega.{arith}
 use borrow.Author.Tests.{ltb-false}
 use lib.Dec.{T, ltb, eqb, leb, leb→le, ltb→lt, lt→ltb, lit<, lit≤}
