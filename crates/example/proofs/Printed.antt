@@ -17,16 +17,14 @@ use Rattle.formats.specs.Formats.{digits, samplesOf}
 use Rattle.score.specs.Limits.{limit, floatTo, rowWithin, firstBad}
 use Rattle.score.specs.Numbers.{success}
 use Rattle.score.specs.Text.{split, linesOf, columnOf, columnsOf, eachBelow, holdsNames, isDigit, digitOf, eachDigit, isWord, followedBy, wordOf, eachWord, holdsWords, rowsOf}
-use Rattle.score.specs.Text as text
+use Rattle.score.specs.Text as reader
 use Rattle.score.specs.Reading.{lineNumber, testLines, testText, textRows, store, scoreNames, settleScore, readOf, editNames, settleEdits, readEditsOf}
-use Rattle.take.specs.declared.Answer.the-variants.{Done}
-use Rattle.take.specs.Take.{parametersOf, startOf, rowFrom, rowOf, same, stopsOf, runOf, Settings, Take, Run, ran, idle, rowCount, rowAt, putRow, atEnd, atStop}
+use Rattle.take.specs.Take.{parametersOf, startOf, rowFrom, rowOf, same, stopsOf, runOf, bankLength, Settings, Take, Run, Outcome, ran, idle, rowCount, rowAt, putRow, atEnd, atStop}
 use Rattle.take.specs.Take.{settingsNumber, lengthsNumber, lentNumber, limitRefusal, scoreRefusal, refusalOf, renderRefusal, editRefusal, renderOf, editOf}
-use Rattle.take.specs.Take as calls
 use Rattle.take.specs.Retakes.{Edit, edited}
 use Rattle.retake_lib.specs.Program.{zeros, textOf, scoreText, editsText, editFrom, editsFrom, settingsWith, blank, heading, countsLine, editLine, editLines, inputsOf, outputOf, played, program}
 use Rattle.retake_lib.proofs.Files.{samples-long}
-use Rattle.example.specs.Example.{exampleScore, exampleEdits, examplePrinted, ExamplePrinted}
+use Rattle.example.specs.Example.{text, exampleScore, exampleEdits, examplePrinted, ExamplePrinted}
 
 -- ---- what is read
 
@@ -54,8 +52,8 @@ abbrev edits : List ℕ
 edits = (1 ∷ row one 0) ++ ((0 ∷ row one 1) ++ (2 ∷ row half 1))
 
 read : (scoreText exampleScore ≡ record { result = success 3; rows = rows₀ ++ zeros 625 }) × (editsText exampleEdits ≡ record { result = success 3; rows = edits ++ zeros 174 })
-unfolding textOf zeros readOf readEditsOf scoreNames editNames settleScore settleEdits testText textRows testLines lineNumber store split linesOf text.same
-    columnOf columnsOf eachBelow holdsNames isDigit digitOf eachDigit isWord followedBy wordOf eachWord holdsWords text.rowOf rowsOf rowWithin limit floatTo le decimal ofBits
+unfolding textOf zeros readOf readEditsOf scoreNames editNames settleScore settleEdits testText textRows testLines lineNumber store split linesOf reader.same
+    columnOf columnsOf eachBelow holdsNames isDigit digitOf eachDigit isWord followedBy wordOf eachWord holdsWords reader.rowOf rowsOf rowWithin limit floatTo le decimal ofBits
 read = (refl, refl)
 
 -- No row is outside its limits.
@@ -71,7 +69,7 @@ within = record { score = refl; edit₁ = refl; edit₂ = refl; edit₃ = refl }
 
 -- ---- calls with a full bank
 
-module _ (bank : List ℤ) (full : length bank ≡ calls.bankLength) where
+module _ (bank : List ℤ) (full : length bank ≡ bankLength) where
   abbrev s : Settings
   s = settingsWith bank
 
@@ -88,7 +86,7 @@ module _ (bank : List ℤ) (full : length bank ≡ calls.bankLength) where
   render-is rows t e l = rw (lent-passes rows t e, l) refl
 
   -- What an edit that is not refused leaves.
-  abbrev editLeft : List ℕ → ℕ → List ℕ → Take → calls.Outcome
+  abbrev editLeft : List ℕ → ℕ → List ℕ → Take → Outcome
   editLeft rows k row t =
       cond (same (rowAt rows k) row) (ran rows (idle t)) (ran (putRow rows k row) (runOf (atStop (rowCount rows) (putRow rows k row)) s (putRow rows k row) (rowCount rows - k) k t))
 
@@ -112,57 +110,52 @@ module _ (bank : List ℤ) (full : length bank ≡ calls.bankLength) where
     long₀ : Long rows₀ (run₀ .left)
     long₁ : Long rows₁ (run₁ .left)
     long₂ : Long rows₂ (run₂ .left)
-    rows-one : run₁ .rows ≡ 1
-    none-held₁ : run₁ .held ≡ 0
-    rows-two : run₂ .rows ≡ 2
-    none-held₂ : run₂ .held ≡ 0
+    line₁ : editLine 1 (ran rows₁ run₁ .answer) ≡ text ("1 1 0" ∷ [])
+    line₂ : editLine 0 (ran rows₂ run₂ .answer) ≡ text ("0 2 0" ∷ [])
 
   known : Known
   unfolding lengthsNumber runOf rowOf rowFrom startOf parametersOf stopsOf same zeros stateOf freshState blockOf keptWords wavetableOf rendered setUp framed quantised
       noteToFrequency semitonesToRatio lutPitchRatioHigh lutPitchRatioLow moved partsOf heldOf sumOf eachOf stateAfter partOf decimal ofBits toBits add sub mul div lt le neg toUnsigned ofInt isNan
-  known = record { long₀ = refl; long₁ = refl; long₂ = refl; rows-one = refl; none-held₁ = refl; rows-two = refl; none-held₂ = refl }
+      editLine countsLine digits
+  known = record { long₀ = refl; long₁ = refl; long₂ = refl; line₁ = refl; line₂ = refl }
+
+  render₀ : renderOf s rows₀ (blank 3) ≡ ran rows₀ run₀
+  render₀ = render-is rows₀ (blank 3) (unfold lengthsNumber zeros in refl) (within .score)
+
+  edit₁ : editOf s rows₀ 1 (row one 0) (run₀ .left) ≡ ran rows₁ run₁
+  unfolding same
+  edit₁ = edit-is rows₀ 1 (row one 0) (run₀ .left) (known .long₀) (within .edit₁)
+
+  edit₂ : editOf s rows₁ 0 (row one 1) (run₁ .left) ≡ ran rows₂ run₂
+  unfolding same
+  edit₂ = edit-is rows₁ 0 (row one 1) (run₁ .left) (known .long₁) (within .edit₂)
+
+  edit₃ : editOf s rows₂ 2 (row half 1) (run₂ .left) ≡ ran rows₂ (idle (run₂ .left))
+  unfolding same
+  edit₃ = edit-is rows₂ 2 (row half 1) (run₂ .left) (known .long₂) (within .edit₃)
 
   -- ---- the lines
 
   -- The line of an edit, and those of the edits after it.
-  next : (o : calls.Outcome) (e : Edit) (es : List Edit) (score : List ℕ) (r : Run) → edited s (o .score) (o .left) e ≡ ran score r
-      → editLines s o (e ∷ es) ≡ editLine (e .row) (Done (r .rows) (r .held)) ++ editLines s (ran score r) es
+  next : (o : Outcome) (e : Edit) (es : List Edit) (line : List ℕ) (o' : Outcome) → edited s (o .score) (o .left) e ≡ o' → editLine (e .row) (o' .answer) ≡ line
+      → editLines s o (e ∷ es) ≡ line ++ editLines s o' es
   unfolding editLines
-  next o e es score r q = ap (λ (x : calls.Outcome). editLine (e .row) (x .answer) ++ editLines s x es) q
+  next o e es line o' q l = rw (q, l) refl
 
-  rendered-is : renderOf s rows₀ (blank 3) ≡ ran rows₀ run₀
-  rendered-is = render-is rows₀ (blank 3) (unfold lengthsNumber zeros in refl) (within .score)
-
-  edit₁-is : editOf s rows₀ 1 (row one 0) (run₀ .left) ≡ ran rows₁ run₁
-  unfolding same
-  edit₁-is = edit-is rows₀ 1 (row one 0) (run₀ .left) (known .long₀) (within .edit₁)
-
-  edit₂-is : editOf s rows₁ 0 (row one 1) (run₁ .left) ≡ ran rows₂ run₂
-  unfolding same
-  edit₂-is = edit-is rows₁ 0 (row one 1) (run₁ .left) (known .long₁) (within .edit₂)
-
-  edit₃-is : editOf s rows₂ 2 (row half 1) (run₂ .left) ≡ ran rows₂ (idle (run₂ .left))
-  unfolding same
-  edit₃-is = edit-is rows₂ 2 (row half 1) (run₂ .left) (known .long₂) (within .edit₃)
-
-  lines-are : editLines s (ran rows₀ run₀) (editsFrom 3 edits)
-      ≡ editLine 1 (Done (run₁ .rows) (run₁ .held)) ++ (editLine 0 (Done (run₂ .rows) (run₂ .held)) ++ (editLine 2 (Done 0 0) ++ []))
+  lines-are : editLines s (ran rows₀ run₀) (editsFrom 3 edits) ≡ text ("1 1 0" ∷ "0 2 0" ∷ "2 0 0" ∷ [])
   unfolding editsFrom editLines
   lines-are =
-      next (ran rows₀ run₀) (editFrom edits) (editsFrom 2 (drop 6 edits)) rows₁ run₁ edit₁-is
-      ∙ ap (λ (l : List ℕ). editLine 1 (Done (run₁ .rows) (run₁ .held)) ++ l)
-      (next (ran rows₁ run₁) (editFrom (drop 6 edits)) (editsFrom 1 (drop 12 edits)) rows₂ run₂ edit₂-is
-      ∙ ap (λ (l : List ℕ). editLine 0 (Done (run₂ .rows) (run₂ .held)) ++ l) (next (ran rows₂ run₂) (editFrom (drop 12 edits)) [] rows₂ (idle (run₂ .left)) edit₃-is))
+      next (ran rows₀ run₀) (editFrom edits) (editsFrom 2 (drop 6 edits)) (text ("1 1 0" ∷ [])) (ran rows₁ run₁) edit₁ (known .line₁)
+      ∙ ap (λ (l : List ℕ). text ("1 1 0" ∷ []) ++ l) (next (ran rows₁ run₁) (editFrom (drop 6 edits)) (editsFrom 1 (drop 12 edits)) (text ("0 2 0" ∷ [])) (ran rows₂ run₂) edit₂ (known .line₂))
+      ∙ ap (λ (l : List ℕ). text ("1 1 0" ∷ "0 2 0" ∷ []) ++ l)
+      (next (ran rows₂ run₂) (editFrom (drop 12 edits)) [] (text ("2 0 0" ∷ [])) (ran rows₂ (idle (run₂ .left))) edit₃ (unfold editLine countsLine digits in refl))
 
   played-is : played s rows₀ (blank 3) (editsFrom 3 edits) .printed ≡ examplePrinted
-  unfolding played editLine countsLine digits
-  played-is =
-      ap (λ (o : calls.Outcome). heading ++ editLines s o (editsFrom 3 edits)) rendered-is
-      ∙ ap (λ (l : List ℕ). heading ++ l) lines-are
-      ∙ rw (known .rows-one, known .none-held₁, known .rows-two, known .none-held₂) refl
+  unfolding played
+  played-is = ap (λ (o : Outcome). heading ++ editLines s o (editsFrom 3 edits)) render₀ ∙ ap (λ (l : List ℕ). heading ++ l) lines-are
 
 -- ---- the claim
 
 pub example-printed : ExamplePrinted
 unfolding program inputsOf outputOf editsFrom
-example-printed bank full = rw (read .0, read .1, full) (played-is (samplesOf bank) (samples-long calls.bankLength bank full))
+example-printed bank full = rw (read .0, read .1, full) (played-is (samplesOf bank) (samples-long bankLength bank full))
