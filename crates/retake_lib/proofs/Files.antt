@@ -54,7 +54,7 @@ bad-of-take (suc n) l =
     let k : suc n * rowWords ≡ rowWords + n * rowWords = omega arith in
     rw (k, take-take rowWords (rowWords + n * rowWords) l (omega arith), drop-of-take rowWords (n * rowWords) l, bad-of-take n (drop rowWords l))
 
-samples-long : (n : ℕ) (bytes : List ℕ) → length bytes ≡ n * 2 → length (samplesOf bytes) ≡ n
+pub samples-long : (n : ℕ) (bytes : List ℕ) → length bytes ≡ n * 2 → length (samplesOf bytes) ≡ n
 unfolding samplesOf
 samples-long zero [] e = refl
 samples-long zero (low ∷ bytes) e = absurd (omega arith)

@@ -3,3 +3,4 @@ pub mod Magnitude
 pub mod Sums
 pub mod Frames
 pub mod Rising
+pub mod PitchEntries
