@@ -37,7 +37,9 @@ shared-slice-read-b c = omega (arith, part-most _ _ _ (c .before .before .held-p
 
 returns : tie.Need-returns
 unfolding interpolateWrap ofBits decimal
-returns c = rw (c .before .before .before .held-part .ensures, c .before .before .before .before .clamp .ensures, c .before .before .before .before .before .whole-i32-float .ensures)
+returns c =
+    let at-part = c .before .before .before in
+    rw (at-part .held-part .ensures, at-part .before .clamp .ensures, at-part .before .before .whole-i32-float .ensures)
 
 pub interpolate-wrap-spec : {M : Type 1} → statement M
 interpolate-wrap-spec =

@@ -94,16 +94,21 @@ loop-less c = search needs
 loop-again : tie.Need-loop-again Inv-loop μ-loop
 loop-again c =
     let pre = c .before .before .before .before .before .before .before .before .before .before .before .before .before .pre in
+    let next = c .before .before .before .before .before .before .next .ensures in
+    let shifted-x = c .before .before .before .before .shifted-x .ensures in
+    let shifted-x-2 = c .before .before .shifted-x2 .ensures in
+    let taken = c .before .before .before .before .before .before .before .loop-test .taken in
+    let inv = c .before .before .before .before .before .before .before .before .loop .inv in
     shifting-more _ _ _ _ _ _ _ _ _ _ _ _ _ _ _ _
-    (c .before .before .before .before .before .before .next .ensures)
-    (c .before .before .before .before .shifted-x .ensures)
-    (c .before .before .shifted-x2 .ensures)
+    next
+    shifted-x
+    shifted-x-2
     (c .before .held-part .ensures)
-    (omega (arith, c .before .before .before .before .before .before .before .loop-test .taken))
+    (omega (arith, taken))
     (pre .1 .1 .0)
     (pre .1 .1 .1 .0)
     (pre .1 .1 .1 .1)
-    (c .before .before .before .before .before .before .before .before .loop .inv)
+    inv
 
 same-length : tie.Need-same-length Inv-loop μ-loop
 same-length c = search needs

@@ -1,28 +1,26 @@
--- The loop that writes the words, by the law of a list that is filled from the front.
-use mathlib.Core.Path.{_≡_, refl, _∙_}
+-- The loop that writes the words, by the law of lent runs that a loop fills.
+use mathlib.Core.Path.{_≡_, _∙_}
 use borrow.Author.Needs.{needs}
 use lib.Ieee.{nan, binary32, toBits}
-use lib.ListN.{length, getD, length-set}
+use lib.ListN.{length, getD}
 use native.Mathlib.Omega.{arith}
 use Prim.Native.Nat.{_≤_, _-_}
 use Rattle.wavetable_engine.specs.Wavetable.{lofi}
-use Rattle.utils.specs.Frames.{Filled}
-use Rattle.utils.proofs.Frames.{filled-none, filled-more}
+use Rattle.oscillator.proofs.Runs.{Filling, filling-none, filling-more}
 use Rattle.wavetable_engine.proofs.frames.words_all.Statement.{statement}
 use Rattle.wavetable_engine.proofs.frames.words_all.Tie as tie
 
 abbrev Inv-loop : tie.InvT-loop
 Inv-loop samples out₀ aux₀ i₀ out aux i =
     (i ≤ length out₀)
-    × ((length out ≡ length out₀)
-    × ((length aux ≡ length aux₀)
-    × (Filled (λ j. toBits binary32 (getD samples j nan)) 0 out i × Filled (λ j. toBits binary32 (lofi (getD samples j nan))) 0 aux i)))
+    × ((length aux₀ ≡ length out₀)
+    × (Filling (λ j. toBits binary32 (getD samples j nan)) 0 out₀ out i × Filling (λ j. toBits binary32 (lofi (getD samples j nan))) 0 aux₀ aux i))
 
 abbrev μ-loop : tie.MeasureT-loop
 μ-loop samples out₀ aux₀ i₀ out aux i = length out₀ - i
 
 loop-holds : tie.Need-loop-holds Inv-loop μ-loop
-loop-holds c = (search needs, (refl, (refl, (filled-none _ _ _, filled-none _ _ _))))
+loop-holds c = (search needs, (search needs, (filling-none _ _ _, filling-none _ _ _)))
 
 mul-x : tie.Need-mul-x Inv-loop μ-loop
 mul-x c = search needs
@@ -59,15 +57,13 @@ loop-less c = search needs
 
 loop-again : tie.Need-loop-again Inv-loop μ-loop
 loop-again c =
-    let l = c .before .before .before .before .before .loop in
-    let done = l .inv .1 .1 .1 in
-    rw (c .to-word2 .ensures, c .before .lofi .ensures, c .before .before .to-word .ensures) (
-      omega arith,
+    let inv = c .before .before .before .before .before .loop .inv in (
+      search needs,
       (
-        length-set (l .out) (l .i) _ ∙ l .inv .1 .0,
+        inv .1 .0,
         (
-          length-set (l .aux) (l .i) _ ∙ l .inv .1 .1 .0,
-          (filled-more _ _ (l .out) (l .i) _ (omega arith) refl (done .0), filled-more _ _ (l .aux) (l .i) _ (omega arith) refl (done .1)),
+          filling-more _ _ _ _ _ _ (search needs) (c .before .before .to-word .ensures) (inv .1 .1 .0),
+          filling-more _ _ _ _ _ _ (search needs) (c .to-word2 .ensures ∙ rw (c .before .lofi .ensures)) (inv .1 .1 .1),
         ),
       ),
     )
@@ -82,7 +78,7 @@ returns : tie.Need-returns Inv-loop μ-loop
 returns c =
     let l = c .before .loop in
     let e : l .i ≡ length (c .before .before .before .before .args .out .now) = omega arith in
-    (rw e at (l .inv .1 .1 .1 .0), rw e at (l .inv .1 .1 .1 .1))
+    (rw e at (l .inv .1 .1 .0 .filled), rw e at (l .inv .1 .1 .1 .filled))
 
 pub words-all-spec : {M : Type 1} → statement M
 words-all-spec =

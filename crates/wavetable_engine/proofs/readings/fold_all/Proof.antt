@@ -1,25 +1,23 @@
--- The folds' loop, by the law of a list that is filled from the front.
+-- The folds' loop, by the law of lent runs that a loop fills.
 use Prim.Native.Nat.{_≤_, _-_}
-use mathlib.Core.Path.{_≡_, refl, _∙_}
+use mathlib.Core.Path.{_≡_, _∙_}
 use borrow.Author.Needs.{needs}
 use lib.Ieee.{nan}
-use lib.ListN.{length, length-set}
 use native.Mathlib.Omega.{arith}
 use Rattle.wavetable_engine.specs.Stages.{mixAt}
-use Rattle.utils.specs.Frames.{Filled}
-use Rattle.utils.proofs.Frames.{filled-none, filled-more}
+use Rattle.oscillator.proofs.Runs.{Filling, filling-none, filling-more}
 use Rattle.wavetable_engine.proofs.readings.fold_all.Statement.{statement}
 use Rattle.wavetable_engine.proofs.readings.fold_all.Tie as tie
 
 abbrev Inv-loop : tie.InvT-loop
 Inv-loop size xs ys zs corners mixes₀ i₀ mixes i =
-    (i ≤ size) × ((length mixes ≡ length mixes₀) × Filled (mixAt xs ys zs corners) nan mixes i)
+    (i ≤ size) × Filling (mixAt xs ys zs corners) nan mixes₀ mixes i
 
 abbrev μ-loop : tie.MeasureT-loop
 μ-loop size xs ys zs corners mixes₀ i₀ mixes i = size - i
 
 loop-holds : tie.Need-loop-holds Inv-loop μ-loop
-loop-holds c = (search needs, (refl, filled-none _ _ _))
+loop-holds c = (search needs, filling-none _ _ _)
 
 mul-load : tie.Need-mul-load Inv-loop μ-loop
 mul-load c = search needs
@@ -68,9 +66,11 @@ loop-less c = search needs
 
 loop-again : tie.Need-loop-again Inv-loop μ-loop
 loop-again c =
-    let l = c .before .before .before .before .before .before .before .before .loop in
-    rw (c .fold-z .ensures, c .before .before .fold-y .ensures, c .before .before .before .before .fold-x .ensures, c .before .before .before .before .before .before .load .ensures)
-    (omega arith, (length-set (l .mixes) (l .i) _ ∙ l .inv .1 .0, filled-more _ _ (l .mixes) (l .i) _ (omega arith) refl (l .inv .1 .1)))
+    let inv = c .before .before .before .before .before .before .before .before .loop .inv in
+    let fold-y = c .before .before .fold-y .ensures in
+    let fold-x = c .before .before .before .before .fold-x .ensures in
+    let load = c .before .before .before .before .before .before .load .ensures in
+    (search needs, filling-more _ _ _ _ _ _ (search needs) (c .fold-z .ensures ∙ rw (fold-y, fold-x, load)) (inv .1))
 
 same-length : tie.Need-same-length Inv-loop μ-loop
 same-length c = search needs
@@ -79,7 +79,7 @@ returns : tie.Need-returns Inv-loop μ-loop
 returns c =
     let l = c .before .loop in
     let e : l .i ≡ c .before .before .before .args .size = omega arith in
-    rw e at (l .inv .1 .1)
+    rw e at (l .inv .1 .filled)
 
 pub fold-all-spec : {M : Type 1} → statement M
 fold-all-spec =

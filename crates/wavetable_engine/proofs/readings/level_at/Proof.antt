@@ -25,12 +25,15 @@ along-x-requires-2 : tie.Need-along-x-requires-2
 along-x-requires-2 c κs = search needs
 
 further-requires-3 : tie.Need-further-requires-3
-further-requires-3 c κs = (omega (arith, c .before .before .before .further .ensures), rw (c .along-x2 .ensures) (spread-below (c .before .before .before .before .before .before .args .level)))
+further-requires-3 c κs =
+    let level = c .before .before .before .before .before .before .args .level in
+    (omega (arith, c .before .before .before .further .ensures), rw (c .along-x2 .ensures) (spread-below level))
 
 mul-t8 : tie.Need-mul-t8
 mul-t8 c =
     let a = c .before .before .before .before .before .before .before .args in
-    omega (arith, c .before .before .before .before .before .before .wave .ensures, wave-below (a .x) (a .y) (a .level))
+    let wave = c .before .before .before .before .before .before .wave .ensures in
+    omega (arith, wave, wave-below (a .x) (a .y) (a .level))
 
 mul-t9 : tie.Need-mul-t9
 mul-t9 c = search needs
