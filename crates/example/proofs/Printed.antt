@@ -21,13 +21,33 @@ use Rattle.formats.specs.Formats.{digits, samplesOf}
 use Rattle.score.specs.Limits.{limit, floatTo, rowWithin, firstBad, badRefusal, limitRefusal}
 use Rattle.score.specs.Rows.{rowAt, putRow}
 use Rattle.score.specs.declared.reader.ReadAnswer.the-variants.{Read}
-use Rattle.score.specs.Text.{split, linesOf, columnOf, columnsOf, eachBelow, holdsNames, isDigit, digitOf, eachDigit, isWord, followedBy, wordOf, eachWord, holdsWords, rowsOf}
-use Rattle.score.specs.Text as reader
-use Rattle.score.specs.Reading.{outcome, lineNumber, testLines, testText, textRows, store, scoreNames, settleScore, readOf, editNames, settleEdits, readEditsOf}
+use Rattle.score.specs.Text.{
+  split,
+  linesOf,
+  columnOf,
+  sourcesOf,
+  eachReadable,
+  columnCount,
+  eachOnce,
+  holdsNames,
+  isDigit,
+  digitOf,
+  eachDigit,
+  isWord,
+  followedBy,
+  wordOf,
+  eachWord,
+  holdsWords,
+  rowOf,
+  rowsOf,
+}
+use Rattle.score.specs.Reading.{outcome, lineNumber, testLines, testText, textRows, countNumber, settle, readText, scoreTable, readOf, editTable, readEditsOf}
 use Rattle.rows.specs.Rows.{parametersOf, startOf, rowFrom, rowBy, beforeRow, both, stopsOf, runOf, Setup, Take, Run, idle}
 use Rattle.take.specs.Take.{Outcome, ran, rowCount, settingsNumber, lengthsNumber, lentNumber, scoreRefusal, refusalOf, renderRefusal, editRefusal, renderOf, editOf}
 use Rattle.take.specs.Retakes.{Edit, edited}
-use Rattle.retake_lib.specs.Program.{zeros, textOf, scoreText, editsText, editFrom, editsFrom, settingsWith, blank, heading, countsLine, editLine, editLines, inputsOf, outputOf, played, program}
+use Rattle.inputs.specs.Inputs.{zeros, textOf, scoreText, editsText, inputsOf}
+use Rattle.outputs.specs.Lines.{heading, countsLine, editLine}
+use Rattle.retake_lib.specs.Program.{editFrom, editsFrom, setupWith, blank, editLines, played, outputOf, program}
 use Rattle.retake_lib.proofs.Files.{samples-long}
 use Rattle.example.specs.Example.{text, exampleScore, exampleEdits, examplePrinted, ExamplePrinted}
 
@@ -57,8 +77,9 @@ abbrev edits : List ℕ
 edits = (1 ∷ row one 0) ++ ((0 ∷ row one 1) ++ (2 ∷ row half 1))
 
 read : (scoreText exampleScore ≡ outcome (Read 3) (rows₀ ++ zeros 625)) × (editsText exampleEdits ≡ outcome (Read 3) (edits ++ zeros 174))
-unfolding textOf zeros readOf readEditsOf scoreNames editNames settleScore settleEdits testText textRows testLines lineNumber store split linesOf reader.same
-    columnOf columnsOf eachBelow holdsNames isDigit digitOf eachDigit isWord followedBy wordOf eachWord holdsWords reader.rowOf rowsOf rowWithin limit floatTo le decimal ofBits
+unfolding textOf zeros readOf readEditsOf readText scoreTable editTable testText textRows testLines lineNumber countNumber settle split linesOf same
+    columnOf sourcesOf eachReadable columnCount eachOnce holdsNames isDigit digitOf eachDigit isWord followedBy wordOf eachWord holdsWords rowOf rowsOf rowWithin limit
+    floatTo le decimal ofBits
 read = (refl, refl)
 
 -- No row is outside its limits.
@@ -76,7 +97,7 @@ within = record { score = refl; edit₁ = refl; edit₂ = refl; edit₃ = refl }
 
 module _ (bank : List ℤ) (full : length bank ≡ bankLength) where
   abbrev s : Setup
-  s = settingsWith bank
+  s = setupWith bank
 
   -- The lengths of the rows and of the take are right: then none of 1 to 7 refuses.
   abbrev Long : List ℕ → Take → Type 0

@@ -5,7 +5,8 @@ use mathlib.Core.Path.{_≡_}
 use mathlib.Core.List.{List, [], _∷_, _++_}
 use lib.ListN.{length}
 use Rattle.score.specs.Text.{bytes, lf}
-use Rattle.retake_lib.specs.Program.{bankBytes, program}
+use Rattle.inputs.specs.Inputs.{bankBytes}
+use Rattle.retake_lib.specs.Program.{program}
 
 -- A text by its lines: "LF ends every line."
 abbrev pub text : List String → List ℕ
