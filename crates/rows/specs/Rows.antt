@@ -126,10 +126,10 @@ idle t = reported nothing t
 abbrev pub after : Report → Run → Run
 after p r = reported (both p (r .report)) (r .left)
 
--- Whether a run stops before row j of n, told the words kept after row j - 1 as they stood and as they now are: "up to the first row j that
--- restarts or for which the 13 words kept after j - 1 are the same as before the edit", or to the end.
-unfoldable pub stopsOf : ℕ → List ℕ → ℕ → List ℕ → List ℕ → Bool
-stopsOf n rows j old new = eqb j n || (restarts (rowAt rows j) || same old new)
+-- Whether a run stops before row j of n, where `unchanged` says that the 13 words kept after row j - 1 are those that stood there: "up to the
+-- first row j that restarts or for which the 13 words kept after j - 1 are the same as before the edit", or to the end.
+unfoldable pub stopsOf : ℕ → List ℕ → ℕ → Bool → Bool
+stopsOf n rows j unchanged = eqb j n || (restarts (rowAt rows j) || unchanged)
 
 -- A run over the stretch from row a to before row e, and then on to its stop: each row is made from the words kept before it, and whether to
 -- stop is asked once row e is reached. The rows are n; at most l of them are rendered.
@@ -140,5 +140,5 @@ runOf s rows n (suc l) a e t =
     let t' = putWords (s .frames) t a (m .words) in
     after (record { rows = 1; holds = m .holds })
     (cond (eqb (a + 1) e)
-    (cond (stopsOf n rows (a + 1) (keptAt (t .kept) a) (m .words .kept)) (idle t') (runOf s rows n l (a + 1) (a + 2) t'))
+    (cond (stopsOf n rows (a + 1) (same (keptAt (t .kept) a) (m .words .kept))) (idle t') (runOf s rows n l (a + 1) (a + 2) t'))
     (runOf s rows n l (a + 1) e t'))

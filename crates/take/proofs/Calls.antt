@@ -13,7 +13,7 @@ use Rattle.score.specs.Rows.{rowWords, rowAt, putRow}
 use Rattle.score.specs.Limits.{limitRefusal}
 use Rattle.rows.specs.declared.Report.{Report}
 use Rattle.rows.specs.Rows.{Setup, Take, Run, reported, idle, runOf}
-use Rattle.rows.specs.Inner.{Holding}
+use Rattle.runs.specs.Inner.{Holding}
 use Rattle.take.specs.declared.Answer.the-variants.{Done, Refused}
 use Rattle.take.specs.Take.{rowCount, lentNumber, scoreRefusal, renderRefusal, editRefusal, outcome, refusedBy, ran, renderOf, editOf}
 use Rattle.take.proofs.Refusals.{usable, holding, refusal-none, score-none}

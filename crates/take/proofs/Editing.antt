@@ -27,7 +27,7 @@ use Rattle.take.proofs.Runs.{Ran, run-ran}
 
 module _ (n : ℕ) (rows : List ℕ) (old new : ℕ → List ℕ) (j : ℕ) where
   -- The test that says so has one of the three reasons.
-  pub stop-why : stopsOf n rows j (old j) (new j) ≡ true → Stop n rows old new j
+  pub stop-why : stopsOf n rows j (same (old j) (new j)) ≡ true → Stop n rows old new j
   unfolding stopsOf
   stop-why = go (eqb j n) (restarts (rowAt rows j)) (same (old j) (new j)) (eqb-true j n) (eqb-true (wordFor restart (rowAt rows j)) 1) (same-eq (old j) (new j))
     where
@@ -38,7 +38,7 @@ module _ (n : ℕ) (rows : List ℕ) (old new : ℕ → List ℕ) (j : ℕ) wher
       go false false z f g h q = inr (inr (h q))
 
   -- The test that says no has none of them.
-  pub stop-not : stopsOf n rows j (old j) (new j) ≡ false → Stop n rows old new j → ⊥
+  pub stop-not : stopsOf n rows j (same (old j) (new j)) ≡ false → Stop n rows old new j → ⊥
   unfolding stopsOf
   stop-not e (inl q) = true≢false (sym (rw (eq-eqb j n q)) ∙ e)
   stop-not e (inr (inl q)) = true≢false (sym (rw (eq-eqb (wordFor restart (rowAt rows j)) 1 q) (or-true (eqb j n) (same (old j) (new j)))) ∙ e)

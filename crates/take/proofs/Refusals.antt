@@ -17,7 +17,7 @@ use Rattle.score.specs.Rows.{rowWords, mostRows, putRow}
 use Rattle.score.specs.Limits.{limitRefusal}
 use Rattle.score.specs.Numbers.{refusal, positionNumber}
 use Rattle.rows.specs.Rows.{Setup, Take}
-use Rattle.rows.specs.Inner.{Holding}
+use Rattle.runs.specs.Inner.{Holding}
 use Rattle.take.specs.Take.{
   rowCount,
   mapLengthOf,

@@ -9,6 +9,7 @@ use native.Mathlib.Omega.{arith}
 use native.Mathlib.Nat.{eq-or-lt-of-le, le-refl}
 use borrow.Author.Tests.{eqb-true, eqb-false, eq-eqb}
 use lib.Dec.{eqb}
+use Rattle.words.specs.Lists.{same}
 use Rattle.utils.specs.Holds.{none, plus, total}
 use Rattle.utils.specs.declared.holds.Holds.{Holds}
 use Rattle.score.specs.Rows.{rowAt}
@@ -48,7 +49,7 @@ module _ (s : Setup) (rows : List ℕ) where
   module _ (n : ℕ) where
     -- Whether a run stops before row j, by the take that it was lent and the one that it left.
     abbrev pub StopsAt : Take → Take → ℕ → Bool
-    StopsAt t u j = stopsOf n rows j (wordsBefore s (t .kept) j) (wordsBefore s (u .kept) j)
+    StopsAt t u j = stopsOf n rows j (same (wordsBefore s (t .kept) j) (wordsBefore s (u .kept) j))
 
     pub record Ran (a e : ℕ) (t : Take) (r : Run) : Type 0 where
       pub least : e ≤ a + r .report .rows
@@ -113,7 +114,7 @@ module _ (s : Setup) (rows : List ℕ) where
           (e, f a (le-refl a) ∙ next-here ∙ ap (λ (r : Row). r .words) (sym e))
 
       abbrev test : Bool
-      test = stopsOf n rows (a + 1) (keptAt (t .kept) a) (made-row .words .kept)
+      test = stopsOf n rows (a + 1) (same (keptAt (t .kept) a) (made-row .words .kept))
 
       test-is : (u : Take) → ((j : ℕ) → j ≤ a → wordsAt (s .frames) u j ≡ wordsAt (s .frames) next j) → StopsAt t u (a + 1) ≡ test
       test-is u f =
@@ -148,7 +149,7 @@ module _ (s : Setup) (rows : List ℕ) where
           λ j l. words-elsewhere (s .frames) (a + 1) (a + 1 + r .report .rows) next u (d .elsewhere) j (inl (omega arith)) in
           let here = made-here u kept in
           let beyond : (i : ℕ) → a + 2 ≤ i → StopsAt t u i ≡ StopsAt next u i =
-          λ i l. ap (λ (w : List ℕ). stopsOf n rows i w (wordsBefore s (u .kept) i)) (sym (next-before i (inr l))) in
+          λ i l. ap (λ (w : List ℕ). stopsOf n rows i (same w (wordsBefore s (u .kept) i))) (sym (next-before i (inr l))) in
           record {
             least = least o;
             most = omega (arith, d .most);

@@ -35,7 +35,7 @@ pub fn render(
         return Answer::Refused(refused);
     }
     let n = rows.len() / ROW_WORDS;
-    let report = rows::run(settings, bank, map, rows, n, 0, n, out, aux, kept);
+    let report = runs::run(settings, bank, map, rows, n, 0, n, out, aux, kept);
     Answer::Done(report)
 }
 
@@ -67,6 +67,6 @@ pub fn edit(
     let n = rows.len() / ROW_WORDS;
     score::rows::put_row(rows, position, row);
     let next = position + 1;
-    let retaken = rows::run(settings, bank, map, rows, n, position, next, out, aux, kept);
+    let retaken = runs::run(settings, bank, map, rows, n, position, next, out, aux, kept);
     Answer::Done(retaken)
 }

@@ -1,5 +1,6 @@
 -- `next_end` is `endOf`, by its tests.
-use Rattle.rows.specs.Inner.{endOf}
+use Rattle.rows.specs.Rows.{stopsOf}
+use Rattle.rows.specs.Ends.{endOf}
 use borrow.Author.Tests.{eq-eqb, ne-eqb}
 use mathlib.Core.Path.{sym}
 use borrow.Author.Needs.{needs}
@@ -7,11 +8,11 @@ use Rattle.rows.proofs.next_end.Statement.{statement}
 use Rattle.rows.proofs.next_end.Tie as tie
 
 returns : tie.Need-returns
-unfolding endOf
+unfolding endOf stopsOf
 returns c = simp (ne-eqb _ _ (c .if1 .taken))
 
 returns-2 : tie.Need-returns-2
-unfolding endOf
+unfolding endOf stopsOf
 returns-2 c = simp (eq-eqb _ _ (c .before .if1 .left), eq-eqb _ _ (c .if2 .taken))
 
 row-at-requires : tie.Need-row-at-requires
@@ -21,14 +22,14 @@ restarts-requires : tie.Need-restarts-requires
 restarts-requires c κs = search needs
 
 returns-3 : tie.Need-returns-3
-unfolding endOf
+unfolding endOf stopsOf
 returns-3 c =
     let tests = c .before .before .before in
     let row = c .before .before .row-at .ensures in
     simp (eq-eqb _ _ (tests .before .if1 .left), ne-eqb _ _ (tests .if2 .left), sym row, sym (c .before .restarts .ensures), c .if3 .taken)
 
 returns-4 : tie.Need-returns-4
-unfolding endOf
+unfolding endOf stopsOf
 returns-4 c =
     let tests = c .before .before .before .before in
     let row = c .before .before .before .row-at .ensures in
@@ -38,7 +39,7 @@ add-result : tie.Need-add-result
 add-result c = search needs
 
 returns-5 : tie.Need-returns-5
-unfolding endOf
+unfolding endOf stopsOf
 returns-5 c =
     let tests = c .before .before .before .before in
     let row = c .before .before .before .row-at .ensures in

@@ -1,6 +1,6 @@
 -- `words_before` is `beforeRow`: at row 0 the fresh state's words, else a part of the kept ones.
 use mathlib.Core.Path.{_∙_}
-use Rattle.rows.proofs.Making.{later-before}
+use Rattle.rows.proofs.Before.{later-before}
 use Rattle.rows.specs.Rows.{beforeRow}
 use borrow.Author.Needs.{needs}
 use Rattle.rows.proofs.words_before.Statement.{statement}

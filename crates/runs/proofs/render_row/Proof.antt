@@ -1,11 +1,11 @@
 -- `render_row` is the definition's row, put into the take: by the contracts of the calls that it makes and the law `row-done`.
-use Rattle.rows.proofs.Making.{blocks, place-most, row-done}
+use Rattle.runs.proofs.Making.{blocks, place-most, row-done}
 use Rattle.words.proofs.Copying.{put-is}
 use native.Mathlib.Omega.{arith}
 use mathlib.Core.Path.{refl}
 use borrow.Author.Needs.{needs}
-use Rattle.rows.proofs.render_row.Statement.{statement}
-use Rattle.rows.proofs.render_row.Tie as tie
+use Rattle.runs.proofs.render_row.Statement.{statement}
+use Rattle.runs.proofs.render_row.Tie as tie
 
 row-at-requires : tie.Need-row-at-requires
 row-at-requires c κs = search needs

@@ -1,12 +1,12 @@
 -- `run_rows` is `runOf`: the rows rendered so far and what is left make the whole (`Running`).
-use Rattle.rows.proofs.Turns.{Running, room, running-none, running-more, running-ends, sum-fits}
+use Rattle.runs.proofs.Turns.{Running, room, running-none, running-more, running-ends, sum-fits}
 use Rattle.rows.specs.Rows.{setup, lent}
 use borrow.Author.Needs.{needs}
 use native.Mathlib.Omega.{arith}
 use Prim.Native.Nat.{_-_}
 use mathlib.Core.Path.{_∙_}
-use Rattle.rows.proofs.run_rows.Statement.{statement}
-use Rattle.rows.proofs.run_rows.Tie as tie
+use Rattle.runs.proofs.run_rows.Statement.{statement}
+use Rattle.runs.proofs.run_rows.Tie as tie
 
 abbrev Inv-loop : tie.InvT-loop
 Inv-loop settings bank map sine high low keys₀ run-1₀ run-2₀ run-3₀ run-4₀ corners₀ rows n from to out₀ aux₀ kept₀ k₀ end₀ holds₀ keys run-1 run-2 run-3 run-4 corners out aux kept k end holds =

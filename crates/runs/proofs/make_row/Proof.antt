@@ -1,10 +1,10 @@
 -- `make_row` makes the row that its words and those before it give, by the law `makes`.
-use Rattle.rows.proofs.Making.{makes}
+use Rattle.runs.proofs.Making.{makes}
 use native.Mathlib.Omega.{arith}
 use mathlib.Core.Path.{sym, _∙_}
 use borrow.Author.Needs.{needs}
-use Rattle.rows.proofs.make_row.Statement.{statement}
-use Rattle.rows.proofs.make_row.Tie as tie
+use Rattle.runs.proofs.make_row.Statement.{statement}
+use Rattle.runs.proofs.make_row.Tie as tie
 
 start-requires : tie.Need-start-requires
 start-requires c κs = search needs

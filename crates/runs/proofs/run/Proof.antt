@@ -1,7 +1,7 @@
 -- `run` is `runOf`: the tables that it lends are the definitions' tables, entry by entry.
 use borrow.Author.Needs.{needs}
-use Rattle.rows.proofs.run.Statement.{statement}
-use Rattle.rows.proofs.run.Tie as tie
+use Rattle.runs.proofs.run.Statement.{statement}
+use Rattle.runs.proofs.run.Tie as tie
 
 sine-table-requires : tie.Need-sine-table-requires
 sine-table-requires c κs = search needs

@@ -8,15 +8,17 @@ use native.Mathlib.Omega.{arith}
 use borrow.Author.Tests.{eq-eqb, eqb-false}
 use lib.Dec.{eqb}
 use lib.ListN.{length}
+use Rattle.words.specs.Lists.{same}
 use Rattle.words.proofs.Places.{part-end}
 use Rattle.utils.specs.Holds.{none, plus, AtMost, mostCount}
 use Rattle.utils.specs.Rendered.{mostFrames, mostHolds}
 use Rattle.utils.specs.declared.holds.Holds.{Holds}
 use Rattle.utils.proofs.Sums.{plus-none, none-plus, plus-assoc, most-none, most-more, most-plus}
 use Rattle.score.specs.Rows.{mostRows, rowAt, restarts}
 use Rattle.rows.specs.declared.Report.{Report}
 use Rattle.rows.specs.Rows.{Setup, Take, Row, keptAt, rowIn, nothing, both, Run, reported, idle, after, stopsOf, runOf}
-use Rattle.rows.specs.Inner.{Holding, Room, RowDone, endOf}
+use Rattle.rows.specs.Ends.{endOf}
+use Rattle.runs.specs.Inner.{Holding, Room, RowDone}
 
 -- ---- Reports, summed.
 
@@ -88,7 +90,7 @@ module _ (s : Setup) (rows : List ℕ) (n from to : ℕ) where
     m = rowIn s rows (t .kept) k
 
     abbrev stops : Bool
-    stops = stopsOf n rows (k + 1) (keptAt (t .kept) k) (m .words .kept)
+    stops = stopsOf n rows (k + 1) (same (keptAt (t .kept) k) (m .words .kept))
 
     -- The rows rendered with this one.
     abbrev sum : Report
@@ -117,8 +119,8 @@ module _ (s : Setup) (rows : List ℕ) (n from to : ℕ) where
         ∙ r .is (suc l) (omega (arith, r .since))
 
     end-by : e ≡ cond (eqb (k + 1) end) (cond stops 0 (k + 1 + 1)) end
-    unfolding endOf stopsOf
-    end-by = end-is ∙ ap (λ (x : Bool). cond (eqb (k + 1) end) (cond (eqb (k + 1) n || (restarts (rowAt rows (k + 1)) || x)) 0 (k + 1 + 1)) end) (done .same-is)
+    unfolding endOf
+    end-by = end-is ∙ ap (λ (x : Bool). cond (eqb (k + 1) end) (cond (stopsOf n rows (k + 1) x) 0 (k + 1 + 1)) end) (done .same-is)
 
     pub running-ends : e ≡ 0 → reported sum t' ≡ runOf s rows n n from to t₀
     running-ends z = go (eqb (k + 1) end) stops (end-by) (step (n - (k + 1 - from)) (omega (arith, r .at, r .most)))

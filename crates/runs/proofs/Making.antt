@@ -1,5 +1,4 @@
--- A row is made: the words before it are a part of the kept words, its block is the voice's by the definitions' own arguments, and its words
--- come back into the take as `put`.
+-- A row is made: its block is the voice's by the definitions' own arguments, and its words come back into the take as `put`.
 use mathlib.Core.Path.{_≡_, refl, sym, ap, _∙_}
 use mathlib.Core.List.{List}
 use mathlib.Core.Bool.{Bool}
@@ -15,18 +14,8 @@ use Rattle.utils.specs.declared.engine.EngineParameters.{EngineParameters}
 use Rattle.voice.specs.declared.State.{State}
 use Rattle.voice.specs.Voice.{keptCount, voiceOf, keptWords, stateOf, rendered}
 use Rattle.score.specs.Rows.{mostRows, rowAt}
 use Rattle.rows.specs.Rows.{Setup, Take, lent, freshStart, keptAt, beforeRow, wordsBefore, parametersOf, startOf, rowFrom, rowBy}
-use Rattle.rows.specs.Inner.{Blocks, Room, Makes, RowDone}
-
--- The words before a row that is not the first.
-pub later-before : (fresh : State) (kept : List ℕ) (k : ℕ) → (k ≡ 0 → ⊥)
-    → take ((k - 1) * keptCount + keptCount - (k - 1) * keptCount) (drop ((k - 1) * keptCount) kept) ≡ beforeRow fresh kept k
-unfolding beforeRow
-later-before fresh kept zero h = absurd (h refl)
-later-before fresh kept (suc k) h =
-    let a : suc k - 1 ≡ k = omega arith in
-    let d : k * keptCount + keptCount - k * keptCount ≡ keptCount = omega arith in
-    rw (a, d) refl
+use Rattle.runs.specs.Inner.{Blocks, Room, Makes, RowDone}
 
 -- A block that the voice rendered, told the row's start and parameters, is the row's.
 pub makes : (s : Setup) (row before : List ℕ) (n : ℕ) (st : State) (p : EngineParameters) (state : State) (holds : Holds) (out aux kept : List ℕ)

@@ -2,16 +2,15 @@
 use Prim.Native.Nat.{ℕ, _+_, _*_, _≤_, _<_}
 use mathlib.Core.Path.{_≡_}
 use mathlib.Core.List.{List}
-use mathlib.Core.Bool.{Bool, cond, _||_}
-use lib.Dec.{eqb}
+use mathlib.Core.Bool.{Bool}
 use lib.ListN.{length}
 use Rattle.words.specs.Lists.{same}
 use Rattle.utils.specs.Rendered.{mostFrames, mostHolds}
 use Rattle.utils.specs.Holds.{AtMost}
 use Rattle.utils.specs.declared.holds.Holds.{Holds}
-use Rattle.score.specs.Rows.{rowWords, mostRows, rowAt, restarts}
+use Rattle.score.specs.Rows.{rowWords, mostRows}
 use Rattle.voice.specs.Voice.{keptCount}
 use Rattle.rows.specs.Rows.{Setup, Take, Row, keptAt, rowIn, putWords}
 
 -- What is lent for a block: a word of out and of aux for each frame.
 pub record Blocks (frames : ℕ) (out aux : List ℕ) : Type 0 where
@@ -51,8 +50,3 @@ pub record RowDone (s : Setup) (rows : List ℕ) (k : ℕ) (t : Take) (holds : H
   pub holds-most : AtMost (mostHolds * s .frames) holds
   pub same-is : unchanged ≡ same (keptAt (t .kept) k) (rowIn s rows (t .kept) k .words .kept)
   pub left-is : left ≡ putWords (s .frames) t k (rowIn s rows (t .kept) k .words)
-
--- Where a stretch that ended before row e ends once row j of n is reached, told whether the words kept before it are as they were: 0 where the
--- run stops.
-unfoldable pub endOf : ℕ → List ℕ → ℕ → ℕ → Bool → ℕ
-endOf n rows j e unchanged = cond (eqb j e) (cond (eqb j n || (restarts (rowAt rows j) || unchanged)) 0 (j + 1)) e
