@@ -43,7 +43,8 @@ use Rattle.score.specs.Text.{
 }
 use Rattle.score.specs.Reading.{outcome, lineNumber, testLines, testText, textRows, countNumber, settle, readText, scoreTable, readOf, editTable, readEditsOf}
 use Rattle.rows.specs.Rows.{parametersOf, startOf, rowFrom, rowBy, beforeRow, both, stopsOf, runOf, Setup, Take, Run, idle}
-use Rattle.take.specs.Take.{Outcome, ran, rowCount, settingsNumber, lengthsNumber, lentNumber, scoreRefusal, refusalOf, renderRefusal, editRefusal, renderOf, editOf}
+use Rattle.refusals.specs.Refusals.{rowCount, settingsNumber, lengthsNumber, lentNumber, scoreRefusal, refusalOf, renderRefusal, editRefusal}
+use Rattle.take.specs.Take.{Outcome, ran, renderOf, retakeOf, editOf}
 use Rattle.take.specs.Retakes.{Edit, edited}
 use Rattle.inputs.specs.Inputs.{zeros, textOf, scoreText, editsText, inputsOf}
 use Rattle.outputs.specs.Lines.{heading, countsLine, editLine}
@@ -117,7 +118,7 @@ module _ (bank : List ℤ) (full : length bank ≡ bankLength) where
       cond (same (rowAt rows k) row) (ran rows (idle t)) (ran (putRow rows k row) (runOf s (putRow rows k row) (rowCount rows) (rowCount rows) k (k + 1) t))
 
   edit-is : (rows : List ℕ) (k : ℕ) (row : List ℕ) (t : Take) → Long rows t → scoreRefusal rows k row .number ≡ 0 → editOf s rows k row t ≡ editLeft rows k row t
-  unfolding editOf editRefusal refusalOf
+  unfolding editOf retakeOf editRefusal refusalOf
   edit-is rows k row t e l = rw (lent-passes rows t e, l) refl
 
   -- ---- the whole rendering, and the edits of row 1 and of row 0

@@ -20,7 +20,8 @@ use Rattle.score.specs.Numbers.{refusal, accepted, spaceNumber}
 use Rattle.score.specs.Reading.{refuse, readOf, Accepted}
 use Rattle.score.proofs.Accepted.{accepted-passes}
 use Rattle.rows.specs.Rows.{Take}
-use Rattle.take.specs.Take.{rowCount, resultOf, renderOf, renderRefusal, refusalOf, lentNumber, settingsNumber, lengthsNumber}
+use Rattle.refusals.specs.Refusals.{rowCount, renderRefusal, refusalOf, lentNumber, settingsNumber, lengthsNumber}
+use Rattle.take.specs.Take.{resultOf, renderOf}
 use Rattle.take.proofs.Retakes.{demand-3}
 use Rattle.inputs.specs.Inputs.{mostText, mostRows, bankBytes, zeros, textOf, scoreText, editsText}
 use Rattle.inputs.proofs.Texts as texts

@@ -1,5 +1,5 @@
 -- The calls by their tests: a refusal, nothing to do, or a run.
-use mathlib.Core.Path.{_≡_, sym, ap, _∙_}
+use mathlib.Core.Path.{_≡_, refl, sym, ap, _∙_}
 use mathlib.Core.List.{List}
 use mathlib.Core.Bool.{true, false}
 use Prim.Native.Nat.{ℕ, _+_, _*_, _≤_, _<_}
@@ -12,11 +12,31 @@ use Rattle.score.specs.declared.refusal.Refusal.{Refusal}
 use Rattle.score.specs.Rows.{rowWords, rowAt, putRow}
 use Rattle.score.specs.Limits.{limitRefusal}
 use Rattle.rows.specs.declared.Report.{Report}
-use Rattle.rows.specs.Rows.{Setup, Take, Run, reported, idle, runOf}
+use Rattle.rows.specs.Rows.{Setup, Take, Run, nothing, reported, idle, runOf}
 use Rattle.runs.specs.Inner.{Holding}
 use Rattle.take.specs.declared.Answer.the-variants.{Done, Refused}
-use Rattle.take.specs.Take.{rowCount, lentNumber, scoreRefusal, renderRefusal, editRefusal, outcome, refusedBy, ran, renderOf, editOf}
-use Rattle.take.proofs.Refusals.{usable, holding, refusal-none, score-none}
+use Rattle.refusals.specs.Refusals.{rowCount, lentNumber, scoreRefusal, renderRefusal, editRefusal}
+use Rattle.take.specs.Take.{outcome, refusedBy, ran, renderOf, retakeOf, editOf}
+use Rattle.take.specs.Inner.{Retakable}
+use Rattle.refusals.proofs.Accepted.{Usable, usable, refusal-none, score-none}
+
+-- ---- What a run may count on.
+
+-- Row words of the same length hold the rows too.
+pub holding : (s : Setup) (rows rows' : List ℕ) (t : Take) → Usable s rows t → length rows' ≡ length rows → Holding (s .frames) (rowCount rows) rows' t
+holding s rows rows' t u e =
+    let a = u .settings in
+    let b = u .fit in
+    record {
+      frames-most = a .frames-most;
+      rows-most = b .rows-most;
+      rows-room = omega (arith, b .rows-long);
+      out-room = omega (arith, b .out-long);
+      aux-room = omega (arith, b .aux-long);
+      kept-room = omega (arith, b .kept-long);
+    }
+
+-- ---- The calls.
 
 module _ (s : Setup) (rows : List ℕ) (t : Take) where
   abbrev n : ℕ
@@ -60,19 +80,22 @@ module _ (s : Setup) (rows : List ℕ) (t : Take) where
       unfolding editRefusal
       edit-score = score-none rows k row (refusal-none (lentNumber s rows t) (scoreRefusal rows k row) z .1)
 
-      pub edit-room : k * rowWords + rowWords ≤ length rows
-      edit-room = omega (arith, edit-score .0)
+      pub edit-retakable : Retakable (s .frames) k rows t
+      edit-retakable = record { below = edit-score .0; holding = holding s rows rows t (usable s rows t edit-lent) refl }
 
-      pub edit-holding : length row ≡ rowWords → Holding (s .frames) n rows' t
-      edit-holding five = holding s rows rows' t (usable s rows t edit-lent) (put-long rowWords k rows row edit-room five)
-
-      pub edit-same : same (rowAt rows k) row ≡ true → editOf s rows k row t ≡ ran rows (idle t)
+      pub edit-retake : editOf s rows k row t ≡ retakeOf s rows k row t
       unfolding editOf
-      edit-same w = rw (eq-eqb (editRefusal s rows k row t .number) 0 z, w)
+      edit-retake = rw (eq-eqb (editRefusal s rows k row t .number) 0 z)
 
-      pub edit-run : same (rowAt rows k) row ≡ false → editOf s rows k row t ≡ ran rows' (runOf s rows' n n k (k + 1) t)
-      unfolding editOf
-      edit-run w = rw (eq-eqb (editRefusal s rows k row t .number) 0 z, w)
+    -- ---- A row's new words.
+
+    pub retake-same : same (rowAt rows k) row ≡ true → retakeOf s rows k row t ≡ ran rows (idle t)
+    unfolding retakeOf
+    retake-same w = rw w
+
+    pub retake-run : same (rowAt rows k) row ≡ false → retakeOf s rows k row t ≡ ran rows' (runOf s rows' n n k (k + 1) t)
+    unfolding retakeOf
+    retake-run w = rw w
 
 -- ---- What the code answers.
 
@@ -94,7 +117,35 @@ module _ (s : Setup) (rows : List ℕ) (t : Take) (k : ℕ) (row : List ℕ) (r 
   pub edit-accepted : r .number ≡ 0 → editRefusal s rows k row t .number ≡ 0
   edit-accepted z = ap (λ (x : Refusal). x .number) (sym e) ∙ z
 
-  pub answers-edited : r .number ≡ 0 → same (rowAt rows k) row ≡ false → (p : Report) (new : List ℕ) (left : Take) → new ≡ putRow rows k row
-      → reported p left ≡ runOf s new (rowCount rows) (rowCount rows) k (k + 1) t → outcome (Done p) new left ≡ editOf s rows k row t
-  answers-edited z w p new left q x =
-      rw q (ap (λ (y : Run). ran (putRow rows k row) y) (rw q at x) ∙ sym (edit-run s rows t k row (edit-accepted z) w))
+  pub answers-edited : r .number ≡ 0 → (p : Report) (new : List ℕ) (left : Take) → ran new (reported p left) ≡ retakeOf s rows k row t
+      → outcome (Done p) new left ≡ editOf s rows k row t
+  answers-edited z p new left q = q ∙ sym (edit-retake s rows t k row (edit-accepted z))
+
+-- ---- What a retake may count on, and leaves.
+
+module _ (frames : ℕ) (rows : List ℕ) (t : Take) (k : ℕ) (r : Retakable frames k rows t) where
+  pub retake-room : k * rowWords + rowWords ≤ length rows
+  retake-room = omega (arith, r .below)
+
+  module _ (row new : List ℕ) (five : length row ≡ rowWords) (q : new ≡ putRow rows k row) where
+    pub retake-holding : Holding frames (rowCount rows) new t
+    retake-holding =
+        let h = r .holding in
+        let e : length new ≡ length rows = ap length q ∙ put-long rowWords k rows row retake-room five in
+        record {
+          frames-most = h .frames-most;
+          rows-most = h .rows-most;
+          rows-room = omega (arith, h .rows-room);
+          out-room = h .out-room;
+          aux-room = h .aux-room;
+          kept-room = h .kept-room;
+        }
+
+pub retakes-unchanged : (s : Setup) (rows : List ℕ) (t : Take) (k : ℕ) (row : List ℕ) (p : Report) → same (rowAt rows k) row ≡ true → p ≡ nothing
+    → ran rows (reported p t) ≡ retakeOf s rows k row t
+retakes-unchanged s rows t k row p w e = ap (λ (x : Report). ran rows (reported x t)) e ∙ sym (retake-same s rows t k row w)
+
+pub retakes-changed : (s : Setup) (rows : List ℕ) (t : Take) (k : ℕ) (row : List ℕ) (p : Report) (new : List ℕ) (left : Take) → same (rowAt rows k) row ≡ false
+    → new ≡ putRow rows k row → reported p left ≡ runOf s new (rowCount rows) (rowCount rows) k (k + 1) t → ran new (reported p left) ≡ retakeOf s rows k row t
+retakes-changed s rows t k row p new left w q x =
+    rw q (ap (λ (y : Run). ran (putRow rows k row) y) (rw q at x) ∙ sym (retake-run s rows t k row w))

@@ -17,9 +17,10 @@ use Rattle.score.specs.Rows.{rowWords, wordFor, restart, rowAt, restarts}
 use Rattle.score.specs.declared.refusal.Refusal.{Refusal}
 use Rattle.rows.specs.Rows.{Setup, Take, wordsBefore, Run, idle, stopsOf, runOf}
 use Rattle.take.specs.declared.Answer.the-variants.{Done}
-use Rattle.take.specs.Take.{rowCount, editRefusal, resultOf, Outcome, ran}
+use Rattle.refusals.specs.Refusals.{rowCount, editRefusal}
+use Rattle.take.specs.Take.{resultOf, Outcome, ran}
 use Rattle.take.specs.Retakes.{Edit, withRow, edited, Stop, First, Writes, madeFrom, holdsOf, Retaken, Retakes}
-use Rattle.take.proofs.Calls.{edit-refused, edit-room, edit-score, edit-holding, edit-same, edit-run}
+use Rattle.take.proofs.Calls.{edit-refused, edit-score, edit-retakable, edit-retake, retake-same, retake-run, retake-room, retake-holding}
 use Rattle.take.proofs.Takes.{Roomy}
 use Rattle.take.proofs.Runs.{Ran, run-ran}
 
@@ -79,7 +80,7 @@ module _ (s : Setup) (rows : List ℕ) (t : Take) (e : Edit) where
 
   module _ (z : r .number ≡ 0) where
     pub edit-unchanged : rowAt rows (e .row) ≡ e .words → edited s rows t e ≡ ran rows (idle t)
-    edit-unchanged w = edit-same s rows t (e .row) (e .words) z (rw w (same-refl (e .words)))
+    edit-unchanged w = edit-retake s rows t (e .row) (e .words) z ∙ retake-same s rows t (e .row) (e .words) (rw w (same-refl (e .words)))
 
     -- An edit that changes words is a run over its row's stretch.
     module _ (w : rowAt rows (e .row) ≡ e .words → ⊥) where
@@ -96,10 +97,10 @@ module _ (s : Setup) (rows : List ℕ) (t : Take) (e : Edit) where
       run = runOf s rows' n n k (k + 1) t
 
       pub edited-run : edited s rows t e ≡ ran rows' run
-      edited-run = edit-run s rows t k (e .words) z (differs (rowAt rows k) (e .words) w)
+      edited-run = edit-retake s rows t k (e .words) z ∙ retake-run s rows t k (e .words) (differs (rowAt rows k) (e .words) w)
 
       row-room : k * rowWords + rowWords ≤ length rows
-      row-room = edit-room s rows t k (e .words) z
+      row-room = retake-room (s .frames) rows t k (edit-retakable s rows t k (e .words) z)
 
       pub rows-long : length rows' ≡ length rows
       rows-long = put-long rowWords k rows (e .words) row-room (e .five)
@@ -109,7 +110,7 @@ module _ (s : Setup) (rows : List ℕ) (t : Take) (e : Edit) where
 
       room : Roomy s n rows' t
       room =
-          let h = edit-holding s rows t k (e .words) z (e .five) in
+          let h = retake-holding (s .frames) rows t k (edit-retakable s rows t k (e .words) z) (e .words) rows' (e .five) refl in
           record { rows-room = h .rows-room; out-room = h .out-room; aux-room = h .aux-room; kept-room = h .kept-room }
 
       pub edit-ran : Ran s rows' n k (k + 1) t run

@@ -14,7 +14,8 @@ use Rattle.score.specs.Rows.{rowWords, rowAt}
 use Rattle.score.specs.Limits.{rowWithin, firstBad, badRefusal, limitRefusal}
 use Rattle.score.specs.Numbers.{refusal, accepted, limitNumber}
 use Rattle.rows.specs.Rows.{Setup, Take, beforeRow, Run}
-use Rattle.take.specs.Take.{rowCount, Outcome, renderOf}
+use Rattle.refusals.specs.Refusals.{rowCount}
+use Rattle.take.specs.Take.{Outcome, renderOf}
 use Rattle.take.specs.Retakes.{Edit, withRow, edited, after, wordsAt, Inherits, Inherited}
 use Rattle.take.proofs.Calls.{render-limits, render-run, edit-refused, edit-score}
 use Rattle.take.proofs.Takes.{words-elsewhere}

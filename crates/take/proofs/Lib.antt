@@ -1,5 +1,4 @@
 -- What the proofs of this crate share.
-pub mod Refusals
 pub mod Calls
 pub mod Takes
 pub mod Runs

@@ -18,7 +18,8 @@ use Rattle.score.specs.declared.refusal.Refusal.{Refusal}
 use Rattle.score.specs.Rows.{rowWords, wordFor, restart, rowAt}
 use Rattle.rows.specs.Rows.{Setup, Take, wordsBefore, Row, startOf, rowFrom, rowBy, Run, runOf}
 use Rattle.take.specs.declared.Answer.the-variants.{Done}
-use Rattle.take.specs.Take.{rowCount, lentNumber, scoreRefusal, refusalOf, renderRefusal, editRefusal, resultOf, Outcome, refusedBy, ran, renderOf}
+use Rattle.refusals.specs.Refusals.{rowCount, lentNumber, scoreRefusal, refusalOf, renderRefusal, editRefusal}
+use Rattle.take.specs.Take.{resultOf, Outcome, refusedBy, ran, renderOf}
 use Rattle.take.specs.Retakes.{
   fresh,
   takeOf,
@@ -40,7 +41,7 @@ use Rattle.take.specs.Retakes.{
   Accepted,
   Demand3,
 }
-use Rattle.take.proofs.Refusals.{usable}
+use Rattle.refusals.proofs.Accepted.{usable}
 use Rattle.take.proofs.Takes.{SameLengths, words-elsewhere}
 use Rattle.take.proofs.Runs.{Made, before-same, Ran, run-ran}
 use Rattle.take.proofs.FreshRows.{fresh-long, before-fresh, rows-fresh, all-fresh}

@@ -1,2 +1,3 @@
 pub mod Take
 pub mod Retakes
+pub mod Inner

@@ -18,7 +18,8 @@ use Rattle.score.specs.Limits.{rowWithin}
 use Rattle.score.specs.Numbers.{done, refused}
 use Rattle.rows.specs.Rows.{Setup, Take, lent, freshStart, Row, rowFrom, rowBy, rowIn, wordsBefore}
 use Rattle.take.specs.declared.Answer.the-variants.{Done}
-use Rattle.take.specs.Take.{rowCount, scoreRefusal, editRefusal, resultOf, Outcome, renderOf, editOf}
+use Rattle.refusals.specs.Refusals.{rowCount, scoreRefusal, editRefusal}
+use Rattle.take.specs.Take.{resultOf, Outcome, renderOf, editOf}
 
 -- ---- Fresh rendering.
 

@@ -1,13 +1,13 @@
 // Whole rendering of a score, and edits of its rows, over lent words: the calls, with their refusals.
 ghost use mathlib.Core.Path.{_≡_};
-ghost use Rattle.rows.specs.Rows.{setup, lent};
-ghost use Rattle.take.specs.Take.{outcome, renderOf, editOf};
+ghost use Rattle.voice.specs.Voice.{Lent};
+ghost use Rattle.rows.specs.Rows.{setup, lent, reported};
+ghost use Rattle.take.specs.Take.{outcome, ran, renderOf, retakeOf, editOf};
+ghost use Rattle.take.specs.Inner.{Retakable};
 use rows::Report;
 use rows::Settings;
 use score::refusal::Refusal;
 use score::rows::ROW_WORDS;
-
-mod refusal;
 
 // What a call answers: what it rendered, or what it refuses.
 pub enum Answer {
@@ -30,13 +30,42 @@ pub fn render(
         ≡ renderOf (setup settings (now (bank .entry)) (now (map .entry))) (now (rows .entry))
         (lent (now (out .entry)) (now (aux .entry)) (now (kept .entry))) ⌝ }
 {
-    let refused = refusal::render_refusal(settings, bank, map, rows, out, aux, kept);
+    let refused = refusals::render_refusal(settings, bank, map, rows, out, aux, kept);
     if refused.number != 0 {
         return Answer::Refused(refused);
     }
     let n = rows.len() / ROW_WORDS;
     let report = runs::run(settings, bank, map, rows, n, 0, n, out, aux, kept);
     Answer::Done(report)
+}
+
+// A row's words in the place of row k, and what depends on it rendered again; nothing where the words are equal.
+fn retake(
+    settings: Settings,
+    bank: &[i16],
+    map: &[u8],
+    rows: &mut [u32],
+    k: usize,
+    row: [u32; ROW_WORDS],
+    out: &mut [u32],
+    aux: &mut [u32],
+    kept: &mut [u32],
+) -> Report
+    requires { ⌜ Lent (now bank) (now map) ⌝ }
+    requires { ⌜ Retakable (settings .frames) k (now rows) (lent (now out) (now aux) (now kept)) ⌝ }
+    ensures { λ r. ⌜
+        ran (now (rows .exit)) (reported r (lent (now (out .exit)) (now (aux .exit)) (now (kept .exit))))
+        ≡ retakeOf (setup settings (now (bank .entry)) (now (map .entry))) (now (rows .entry)) k row
+        (lent (now (out .entry)) (now (aux .entry)) (now (kept .entry))) ⌝ }
+{
+    let equal = score::rows::same_row(rows, k, row);
+    if equal {
+        return rows::nothing();
+    }
+    let n = rows.len() / ROW_WORDS;
+    score::rows::put_row(rows, k, row);
+    let next = k + 1;
+    runs::run(settings, bank, map, rows, n, k, next, out, aux, kept)
 }
 
 // An edit: a row's words in the place of row `position`, and what depends on it rendered again.
@@ -56,17 +85,20 @@ pub fn edit(
         ≡ editOf (setup settings (now (bank .entry)) (now (map .entry))) (now (rows .entry)) position row
         (lent (now (out .entry)) (now (aux .entry)) (now (kept .entry))) ⌝ }
 {
-    let retaking = refusal::edit_refusal(settings, bank, map, rows, position, row, out, aux, kept);
-    if retaking.number != 0 {
-        return Answer::Refused(retaking);
+    let refused_edit = refusals::edit_refusal(
+        settings,
+        bank,
+        map,
+        rows,
+        position,
+        row,
+        out,
+        aux,
+        kept,
+    );
+    if refused_edit.number != 0 {
+        return Answer::Refused(refused_edit);
     }
-    let equal = score::rows::same_row(rows, position, row);
-    if equal {
-        return Answer::Done(rows::nothing());
-    }
-    let n = rows.len() / ROW_WORDS;
-    score::rows::put_row(rows, position, row);
-    let next = position + 1;
-    let retaken = runs::run(settings, bank, map, rows, n, position, next, out, aux, kept);
+    let retaken = retake(settings, bank, map, rows, position, row, out, aux, kept);
     Answer::Done(retaken)
 }

@@ -1,6 +1,6 @@
 -- `render` is `renderOf`, by its test and its run.
-use Rattle.take.proofs.Calls.{render-lent, answers-render-refused, render-accepted, answers-rendered}
-use Rattle.take.proofs.Refusals.{usable, holding}
+use Rattle.take.proofs.Calls.{holding, render-lent, answers-render-refused, render-accepted, answers-rendered}
+use Rattle.refusals.proofs.Accepted.{usable}
 use native.Mathlib.Nat.{le-refl}
 use mathlib.Core.Path.{refl}
 use borrow.Author.Needs.{needs}

@@ -6,9 +6,9 @@ use borrow.Author.Tests.{lt-ltb, le-ltb, eq-eqb, ne-eqb}
 use borrow.Author.Needs.{needs}
 use Rattle.utils.specs.Rendered.{mostFrames}
 use Rattle.score.specs.Rows.{rowWords, mostRows}
-use Rattle.take.specs.Take.{lengthsNumber}
-use Rattle.take.proofs.refusal.lengths_number.Statement.{statement}
-use Rattle.take.proofs.refusal.lengths_number.Tie as tie
+use Rattle.refusals.specs.Refusals.{lengthsNumber}
+use Rattle.refusals.proofs.lengths_number.Statement.{statement}
+use Rattle.refusals.proofs.lengths_number.Tie as tie
 
 returns : tie.Need-returns
 unfolding lengthsNumber

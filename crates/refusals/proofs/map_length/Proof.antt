@@ -1,7 +1,7 @@
 -- `map_length` is `mapLengthOf`, by its test.
 use borrow.Author.Tests.{eq-eqb, ne-eqb}
-use Rattle.take.proofs.refusal.map_length.Statement.{statement}
-use Rattle.take.proofs.refusal.map_length.Tie as tie
+use Rattle.refusals.proofs.map_length.Statement.{statement}
+use Rattle.refusals.proofs.map_length.Tie as tie
 
 returns : tie.Need-returns
 returns c = simp (eq-eqb _ _ (c .if1 .taken))

@@ -3,7 +3,7 @@ ghost use mathlib.Core.Path.{_≡_};
 ghost use Prim.Native.Nat.{_≤_};
 ghost use Rattle.utils.specs.Rendered.{mostFrames};
 ghost use Rattle.rows.specs.Rows.{setup, lent};
-ghost use Rattle.take.specs.Take.{mapLengthOf, settingsNumber, lengthsNumber, lentNumber, renderRefusal, editRefusal};
+ghost use Rattle.refusals.specs.Refusals.{mapLengthOf, settingsNumber, lengthsNumber, lentNumber, renderRefusal, editRefusal};
 use oscillator::bank::BANK_LENGTH;
 use rows::Settings;
 use score::refusal::BANK;

@@ -2,10 +2,10 @@
 use mathlib.Core.Path.{sym, _∙_}
 use borrow.Author.Tests.{eq-eqb, ne-eqb}
 use borrow.Author.Needs.{needs}
-use Rattle.take.specs.Take.{lentNumber}
-use Rattle.take.proofs.Refusals.{settings-right}
-use Rattle.take.proofs.refusal.lent_number.Statement.{statement}
-use Rattle.take.proofs.refusal.lent_number.Tie as tie
+use Rattle.refusals.specs.Refusals.{lentNumber}
+use Rattle.refusals.proofs.Accepted.{settings-right}
+use Rattle.refusals.proofs.lent_number.Statement.{statement}
+use Rattle.refusals.proofs.lent_number.Tie as tie
 
 settings-number-requires : tie.Need-settings-number-requires
 settings-number-requires c κs = search needs

@@ -2,9 +2,9 @@
 use mathlib.Core.Path.{sym}
 use borrow.Author.Tests.{lt-ltb, le-ltb, eq-eqb, ne-eqb}
 use borrow.Author.Needs.{needs}
-use Rattle.take.specs.Take.{settingsNumber}
-use Rattle.take.proofs.refusal.settings_number.Statement.{statement}
-use Rattle.take.proofs.refusal.settings_number.Tie as tie
+use Rattle.refusals.specs.Refusals.{settingsNumber}
+use Rattle.refusals.proofs.settings_number.Statement.{statement}
+use Rattle.refusals.proofs.settings_number.Tie as tie
 
 returns : tie.Need-returns
 unfolding settingsNumber

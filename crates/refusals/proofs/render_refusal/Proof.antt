@@ -1,8 +1,8 @@
 -- `render_refusal` is the definition: 1 to 7, then 9.
-use Rattle.take.proofs.Refusals.{render-lent, render-limits}
+use Rattle.refusals.proofs.Accepted.{render-lent, render-limits}
 use borrow.Author.Needs.{needs}
-use Rattle.take.proofs.refusal.render_refusal.Statement.{statement}
-use Rattle.take.proofs.refusal.render_refusal.Tie as tie
+use Rattle.refusals.proofs.render_refusal.Statement.{statement}
+use Rattle.refusals.proofs.render_refusal.Tie as tie
 
 lent-number-requires : tie.Need-lent-number-requires
 lent-number-requires c κs = search needs

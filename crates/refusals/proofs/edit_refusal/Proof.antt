@@ -1,8 +1,8 @@
 -- `edit_refusal` is the definition: 1 to 7, then 8, then 9.
-use Rattle.take.proofs.Refusals.{edit-lent, edit-nowhere, edit-limits}
+use Rattle.refusals.proofs.Accepted.{edit-lent, edit-nowhere, edit-limits}
 use borrow.Author.Needs.{needs}
-use Rattle.take.proofs.refusal.edit_refusal.Statement.{statement}
-use Rattle.take.proofs.refusal.edit_refusal.Tie as tie
+use Rattle.refusals.proofs.edit_refusal.Statement.{statement}
+use Rattle.refusals.proofs.edit_refusal.Tie as tie
 
 lent-number-requires : tie.Need-lent-number-requires
 lent-number-requires c κs = search needs

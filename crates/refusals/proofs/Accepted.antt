@@ -17,8 +17,7 @@ use Rattle.score.specs.Rows.{rowWords, mostRows, putRow}
 use Rattle.score.specs.Limits.{limitRefusal}
 use Rattle.score.specs.Numbers.{refusal, positionNumber}
 use Rattle.rows.specs.Rows.{Setup, Take}
-use Rattle.runs.specs.Inner.{Holding}
-use Rattle.take.specs.Take.{
+use Rattle.refusals.specs.Refusals.{
   rowCount,
   mapLengthOf,
   wrongInstrument,
@@ -132,20 +131,6 @@ usable s rows t e = go (settingsNumber (s .instrument) (s .rate) (s .frames) (le
     go (suc m) q x =
         let y : suc m ≡ 0 = rw (ne-eqb (suc m) 0 (λ (h : suc m ≡ 0). omega arith)) at x in
         absurd (omega arith)
-
--- Row words of the same length hold the rows too.
-pub holding : (s : Setup) (rows rows' : List ℕ) (t : Take) → Usable s rows t → length rows' ≡ length rows → Holding (s .frames) (rowCount rows) rows' t
-holding s rows rows' t u e =
-    let a = u .settings in
-    let b = u .fit in
-    record {
-      frames-most = a .frames-most;
-      rows-most = b .rows-most;
-      rows-room = omega (arith, b .rows-long);
-      out-room = omega (arith, b .out-long);
-      aux-room = omega (arith, b .aux-long);
-      kept-room = omega (arith, b .kept-long);
-    }
 
 -- ---- What each call refuses.
 
