@@ -42,7 +42,8 @@ use Rattle.take.specs.Retakes.{
   Demand3,
 }
 use Rattle.refusals.proofs.Accepted.{usable}
-use Rattle.take.proofs.Takes.{SameLengths, words-elsewhere}
+use Rattle.runs.proofs.Turns.{SameLengths}
+use Rattle.take.proofs.Takes.{words-elsewhere}
 use Rattle.take.proofs.Runs.{Made, before-same, Ran, run-ran}
 use Rattle.take.proofs.FreshRows.{fresh-long, before-fresh, rows-fresh, all-fresh}
 use Rattle.take.proofs.Calls.{render-lent, render-run, edit-refused}

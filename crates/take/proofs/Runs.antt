@@ -16,7 +16,8 @@ use Rattle.score.specs.Rows.{rowAt}
 use Rattle.rows.specs.declared.Report.{Report}
 use Rattle.rows.specs.Rows.{Setup, Take, keptAt, beforeRow, wordsBefore, Row, rowBy, rowIn, putWords, both, Run, idle, after, stopsOf, runOf}
 use Rattle.take.specs.Retakes.{wordsAt, Elsewhere, holdsOf, madeFrom}
-use Rattle.take.proofs.Takes.{Roomy, SameLengths, lengths-then, roomy-still, row-sized, put-lengths, put-elsewhere, put-words, elsewhere-then, words-elsewhere}
+use Rattle.runs.proofs.Turns.{SameLengths}
+use Rattle.take.proofs.Takes.{Roomy, lengths-then, roomy-still, row-sized, put-lengths, put-elsewhere, put-words, elsewhere-then, words-elsewhere}
 
 module _ (s : Setup) (rows : List ℕ) where
   -- Row i stands as made from the words that the take keeps before it.
@@ -33,11 +34,6 @@ module _ (s : Setup) (rows : List ℕ) where
   -- A row that has the same words before it is the same row.
   pub row-same : (t u : Take) (i : ℕ) → wordsBefore s (u .kept) i ≡ wordsBefore s (t .kept) i → rowIn s rows (u .kept) i ≡ rowIn s rows (t .kept) i
   row-same t u i e = ap (λ (b : List ℕ). rowBy s (rowAt rows i) b) e
-
-  -- It stands as it stood.
-  pub made-still : (t u : Take) (i : ℕ) → wordsAt (s .frames) u i ≡ wordsAt (s .frames) t i → rowIn s rows (u .kept) i ≡ rowIn s rows (t .kept) i
-      → Made t i → Made u i
-  made-still t u i e f m = e ∙ m ∙ ap (λ (r : Row). r .words) (sym f)
 
   -- Rows made from words that are alike before them are alike.
   pub made-alike : (kept kept' : List ℕ) (l a : ℕ) → ((i : ℕ) → a ≤ i → i < a + l → rowIn s rows kept i ≡ rowIn s rows kept' i)

@@ -5,11 +5,12 @@ use mathlib.Core.Logic.{_⊎_}
 use Prim.Native.Nat.{ℕ, _+_, _*_, _≤_, _<_}
 use native.Mathlib.Omega.{arith}
 use lib.ListN.{length}
-use Rattle.words.proofs.Places.{part-end, put-part, put-outside, put-long, part-outside, outside-then, outside-none}
+use Rattle.words.proofs.Places.{part-end, put-part, put-outside, put-long, part-outside, outside-then}
 use Rattle.score.specs.Rows.{rowWords}
 use Rattle.voice.specs.Voice.{keptCount}
 use Rattle.voice.proofs.Laws as voice
 use Rattle.rows.specs.Rows.{Setup, Take, rowFrom, rowBy, putWords}
+use Rattle.runs.proofs.Turns.{SameLengths}
 use Rattle.take.specs.Retakes.{wordsAt, Elsewhere}
 
 -- The buffers hold n rows.
@@ -18,14 +19,6 @@ pub record Roomy (s : Setup) (n : ℕ) (rows : List ℕ) (t : Take) : Type 0 whe
   pub out-room : n * s .frames ≤ length (t .out)
   pub aux-room : n * s .frames ≤ length (t .aux)
   pub kept-room : n * keptCount ≤ length (t .kept)
-
-pub record SameLengths (t u : Take) : Type 0 where
-  pub out-long : length (u .out) ≡ length (t .out)
-  pub aux-long : length (u .aux) ≡ length (t .aux)
-  pub kept-long : length (u .kept) ≡ length (t .kept)
-
-pub lengths-none : (t : Take) → SameLengths t t
-lengths-none t = record { out-long = refl; aux-long = refl; kept-long = refl }
 
 pub lengths-then : (t u v : Take) → SameLengths t u → SameLengths u v → SameLengths t v
 lengths-then t u v p q =
@@ -90,10 +83,6 @@ module _ (s : Setup) (n k : ℕ) (rows : List ℕ) (t w : Take) (z : Roomy s n r
       )
 
 -- ---- Rows elsewhere.
-
-pub elsewhere-none : (frames k : ℕ) (t : Take) → Elsewhere frames k k t t
-elsewhere-none frames k t =
-    record { out = outside-none frames k (t .out); aux = outside-none frames k (t .aux); kept = outside-none keptCount k (t .kept) }
 
 pub elsewhere-then : (frames k j : ℕ) (a b c : Take) → k < j → Elsewhere frames k (k + 1) a b → Elsewhere frames (k + 1) j b c → Elsewhere frames k j a c
 elsewhere-then frames k j a b c h p q =

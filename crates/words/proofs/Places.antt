@@ -84,6 +84,3 @@ outside-then w k j a b c h p q =
       before = sym (front c g) ∙ ap (λ (y : List ℕ). take (k * w) y) (q .before) ∙ front b g ∙ p .before;
       behind = q .behind ∙ drop-past b ((k + 1) * w) (j * w) u ∙ further ∙ sym (drop-past a ((k + 1) * w) (j * w) u);
     }
-
-pub outside-none : (w k : ℕ) (l : List ℕ) → Outside w k k l l
-outside-none w k l = record { before = refl; behind = refl }
