@@ -15,7 +15,8 @@ use Rattle.voice.specs.Voice.{keptCount}
 use Rattle.score.specs.declared.reader.ReadAnswer.the-variants.{Read}
 use Rattle.score.specs.Rows.{rowWords}
 use Rattle.score.specs.Rows as score
-use Rattle.score.specs.Limits.{firstBad, limitRefusal}
+use Rattle.score.specs.Limits.{limitRefusal}
+use Rattle.score.proofs.FirstBad.{limit-of-take}
 use Rattle.score.specs.Numbers.{refusal, accepted, spaceNumber}
 use Rattle.score.specs.Reading.{refuse, readOf, Accepted}
 use Rattle.score.proofs.Accepted.{accepted-passes}
@@ -42,18 +43,6 @@ brought text n e = pick (ltb mostText (length text)) e
     pick false e = accepted-passes text lent n e
 
 -- ---- the words of just those rows
-
-drop-of-take : {A : Type 0} (n k : ℕ) (l : List A) → drop n (take (n + k) l) ≡ take k (drop n l)
-drop-of-take zero k l = let q : 0 + k ≡ k = omega arith in ap (λ (i : ℕ). take i l) q
-drop-of-take (suc n) k [] = let q : suc n + k ≡ suc (n + k) = omega arith in rw q (sym (take-nil k))
-drop-of-take (suc n) k (x ∷ l) = let q : suc n + k ≡ suc (n + k) = omega arith in rw q (drop-of-take n k l)
-
-bad-of-take : (n : ℕ) (l : List ℕ) → firstBad n (take (n * rowWords) l) ≡ firstBad n l
-unfolding firstBad
-bad-of-take zero l = refl
-bad-of-take (suc n) l =
-    let k : suc n * rowWords ≡ rowWords + n * rowWords = omega arith in
-    rw (k, take-take rowWords (rowWords + n * rowWords) l (omega arith), drop-of-take rowWords (n * rowWords) l, bad-of-take n (drop rowWords l))
 
 pub samples-long : (n : ℕ) (bytes : List ℕ) → length bytes ≡ n * 2 → length (samplesOf bytes) ≡ n
 unfolding samplesOf
@@ -85,8 +74,7 @@ module _ (bank rows : List ℕ) (n : ℕ) (b : length bank ≡ bankBytes) (g : A
   count-is = ap (λ (k : ℕ). k / rowWords) score-long ∙ mul-div-cancel n (omega arith)
 
   limits-pass : limitRefusal (rowCount (take (n * rowWords) rows)) (take (n * rowWords) rows) ≡ accepted
-  unfolding limitRefusal
-  limits-pass = rw (count-is, bad-of-take n rows) (g .passes)
+  limits-pass = rw (count-is, limit-of-take n rows) (g .passes)
 
   lent-pass : lentNumber (setupOf bank) (take (n * rowWords) rows) (blank n) ≡ 0
   unfolding lentNumber zeros
