@@ -17,10 +17,10 @@ use score::refusal::Refusal;
 use score::refusal::TAKE;
 use score::rows::MOST_ROWS;
 use score::rows::ROW_WORDS;
+use terrain::MAP_LENGTH;
 use utils::engine::MOST_FRAMES;
 use voice::KEPT_WORDS;
 use voice::TERRAIN_WITH_MAP;
-use wave_terrain_engine::MAP_LENGTH;
 
 const LOWEST_RATE: u32 = 32000;
 

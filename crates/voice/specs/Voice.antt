@@ -19,7 +19,7 @@ use Rattle.voice.specs.declared.Voice.{Voice}
 use Rattle.voice.specs.declared.Voice.the-variants as voice
 use Rattle.voice.specs.declared.State.{State}
 use Rattle.voice.specs.declared.State.the-variants.{Wavetable, Terrain}
-pub use Rattle.wave_terrain_engine.specs.Block.{Lent}
+pub use Rattle.terrain.specs.Layers.{Lent}
 
 -- The three tables, as they are lent.
 pub record Tables (sine high low : List Float) : Type 0 where

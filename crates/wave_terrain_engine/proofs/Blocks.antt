@@ -22,10 +22,10 @@ use Rattle.utils.specs.declared.engine.EngineParameters.{EngineParameters}
 use Rattle.oscillator.specs.Path.{pathRun, pathRun2, pathAfter}
 use Rattle.oscillator.specs.Sine.{sineOf}
 use Rattle.oscillator.specs.declared.sine_oscillator.FastSineOscillator.{FastSineOscillator}
+use Rattle.terrain.specs.Layers.{layerTop}
 use Rattle.wave_terrain_engine.specs.declared.WaveTerrainEngine.{WaveTerrainEngine}
 use Rattle.wave_terrain_engine.specs.Block.{
   Frame,
-  layerTop,
   interpolatorsNext,
   frameNext,
   layerOf,
@@ -41,7 +41,7 @@ use Rattle.wave_terrain_engine.specs.Block.{
 }
 use Rattle.wave_terrain_engine.specs.Stages.{stageX, stageLayer, stageFraction, stageHeight, stageZ, stageOut, stagePhase, stageAux, FramesDone}
 use Rattle.wave_terrain_engine.specs.declared.frames.Interpolators.{Interpolators}
-use Rattle.wave_terrain_engine.specs.declared.terrain.Reading.{Reading}
+use Rattle.terrain.specs.declared.Reading.{Reading}
 use Rattle.wave_terrain_engine.proofs.Counts.{count-pairs}
 
 -- a layer and the next one, or the same, are within

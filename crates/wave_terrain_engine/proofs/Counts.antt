@@ -1,13 +1,19 @@
--- What oversamples hold, summed: one more, and two for each frame.
+-- What oversamples hold, summed: one more, two for each frame, and at most one each.
 use mathlib.Core.Path.{_≡_, refl, sym, ap, _∙_}
-use Prim.Native.Nat.{ℕ, zero, suc, _+_, _*_, _<_}
+use mathlib.Core.List.{List}
+use Prim.Native.Nat.{ℕ, zero, suc, _+_, _*_, _/_, _<_}
 use native.Mathlib.Numerals.{add-one}
 use native.Mathlib.Omega.{arith}
-use Rattle.utils.specs.Holds.{none, plus, total}
+use lib.IntN.{ℤ}
+use lib.ListN.{getD}
+use lib.Ieee.{Float, nan}
+use Rattle.utils.specs.Holds.{none, plus, total, AtMost}
 use Rattle.utils.specs.Frames.{stateAfter, eachOf, sumOf}
 use Rattle.utils.specs.declared.holds.Holds.{Holds}
-use Rattle.utils.proofs.Sums.{plus-none, plus-assoc, plus-four}
-use Rattle.utils.proofs.Frames.{after-suc, sum-suc}
+use Rattle.utils.proofs.Sums.{plus-none, plus-assoc, plus-four, most-more}
+use Rattle.utils.proofs.Frames.{after-suc, sum-suc, sum-most}
+use Rattle.terrain.proofs.Layers.{terrain-held}
+use Rattle.wave_terrain_engine.specs.Stages.{stageHeight}
 
 after-count : (n : ℕ) → stateAfter suc n 0 ≡ n
 unfolding stateAfter
@@ -43,3 +49,11 @@ module _ {S : Type 0} (next : S → S) (h : S → Holds) (s : S) (f g : ℕ → 
       sum-suc next h n s
       ∙ rw (count-pairs n (λ i l. p i (omega arith)), p n (omega arith), two-more f n, two-more g n)
       (ap (plus (plus (sumOf suc f (n * 2) 0) (sumOf suc g (n * 2) 0))) (plus-four _ _ _ _) ∙ plus-four _ _ _ _)
+
+pub stage-held : (sine : List Float) (bank : List ℤ) (map : List ℕ) (xs ys : List Float) (layers : List ℕ) (up : ℕ) (h : Holds) (n : ℕ)
+    → h ≡ sumOf suc (λ j. stageHeight sine bank map xs ys layers up j .holds) n 0 → AtMost n h
+stage-held sine bank map xs ys layers up h n e =
+    rw e
+    (most-more (omega arith)
+    (sum-most suc (λ j. stageHeight sine bank map xs ys layers up j .holds) 1
+    (λ j. terrain-held sine bank map (getD xs j nan) (getD ys j nan) (getD layers (j / 2) 0 + up)) n 0))

@@ -1,7 +1,5 @@
--- What the proofs of this crate share, and the bench values.
-pub mod Bench
+-- What the proofs of this crate share.
 pub mod Blocks
+pub mod Constants
 pub mod Counts
-pub mod Layers
-pub mod Places
 pub mod Shifts

@@ -1,7 +1,5 @@
 -- Document 01, "Path and terrain voice": a block of frames, `render` of `wave_terrain_engine.rs`.
 use Prim.Native.Nat.{ℕ, _+_, _*_}
-use mathlib.Core.Path.{_≡_}
-use mathlib.Core.Logic.{_⊎_}
 use mathlib.Core.Bool.{cond}
 use mathlib.Core.List.{List}
 use lib.Dec.{eqb}
@@ -19,18 +17,13 @@ use Rattle.utils.specs.Frames.{stateAfter, eachOf, sumOf}
 use Rattle.utils.specs.Rendered.{Rendered}
 use Rattle.utils.specs.declared.holds.Holds.{Holds}
 use Rattle.utils.specs.declared.engine.EngineParameters.{EngineParameters}
-use Rattle.oscillator.specs.Bank.{bankLength}
 use Rattle.oscillator.specs.Path.{pathFresh, pathRun, pathRun2, pathAfter}
 use Rattle.oscillator.specs.Sine.{sineOf}
-use Rattle.wave_terrain_engine.specs.Heights.{mapLength, terrainOf}
-use Rattle.wave_terrain_engine.specs.declared.terrain.Reading.{Reading}
+use Rattle.terrain.specs.Heights.{terrainOf}
+use Rattle.terrain.specs.Layers.{layerTop}
+use Rattle.terrain.specs.declared.Reading.{Reading}
 use Rattle.wave_terrain_engine.specs.declared.frames.Interpolators.{Interpolators}
 use Rattle.wave_terrain_engine.specs.declared.WaveTerrainEngine.{WaveTerrainEngine}
-
--- What is lent: a bank, and a map or none, "a slice, length 0 for none".
-pub record Lent (bank : List ℤ) (map : List ℕ) : Type 0 where
-  pub bank-long : length bank ≡ bankLength
-  pub map-long : (length map ≡ 0) ⊎ (length map ≡ mapLength)
 
 -- What `init` leaves.
 abbrev pub fresh : WaveTerrainEngine
@@ -46,16 +39,6 @@ scale = decimal 1 0 ⊘ ofCount oversampling
 -- "Layers 0 to 7, and 8 with a map."
 abbrev pub numTerrains : List ℕ → ℕ
 numTerrains map = cond (eqb (length map) 0) 8 9
-
--- "The whole layer number is held at 6 without a map and 7 with one".
-abbrev pub top : ℕ
-top = 6
-
-abbrev pub topWithMap : ℕ
-topWithMap = 7
-
-abbrev pub layerTop : List ℕ → ℕ
-layerTop map = cond (eqb (length map) 0) top topWithMap
 
 -- ---- A frame. Its state: the interpolators of offset and layer, and the next entry of the path's two runs.
 

@@ -9,14 +9,10 @@ use Rattle.utils.specs.Holds.{AtMost}
 use Rattle.utils.specs.Frames.{stateAfter}
 use Rattle.utils.specs.declared.holds.Holds.{Holds}
 use Rattle.oscillator.specs.Sine.{sineOf}
-use Rattle.wave_terrain_engine.specs.Heights.{terrainOf}
+use Rattle.terrain.specs.Heights.{terrainOf}
 use Rattle.wave_terrain_engine.specs.Block.{oversampling, interpolatorsNext, offsetOf, layerOf, shiftedX, between, outOf, phaseOf, framesOut, framesAux, framesHolds}
 use Rattle.wave_terrain_engine.specs.declared.frames.Interpolators.{Interpolators}
-use Rattle.wave_terrain_engine.specs.declared.terrain.Reading.{Reading}
-
--- Whole parts of coordinates are cut off above every edge: that moves no place.
-abbrev pub reach : ℕ
-reach = 65535
+use Rattle.terrain.specs.declared.Reading.{Reading}
 
 -- x of oversample j.
 abbrev pub stageX : List Float → Interpolators → ℕ → Float

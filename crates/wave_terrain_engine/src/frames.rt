@@ -6,10 +6,11 @@ ghost use lib.ListN.{length, getD, take};
 ghost use lib.Ieee.{nan};
 ghost use Rattle.utils.specs.Holds.{AtMost};
 ghost use Rattle.utils.specs.Frames.{stateAfter, sumOf, Filled};
-ghost use Rattle.wave_terrain_engine.specs.Block.{Lent, oversampling, topWithMap, layerTop, interpolatorsNext, shiftedX, between, outOf, phaseOf};
+ghost use Rattle.terrain.specs.Layers.{Lent, topWithMap, layerTop};
+ghost use Rattle.wave_terrain_engine.specs.Block.{oversampling, interpolatorsNext, shiftedX, between, outOf, phaseOf};
 ghost use Rattle.wave_terrain_engine.specs.Stages.{stageX, stageLayer, stageFraction, stageHeight, stageOut, stagePhase, stageAux, Room, FramesDone};
-use crate::terrain::terrain;
 use oscillator::sine_oscillator::sine;
+use terrain::terrain;
 use utils::holds::Holds;
 use utils::parameter_interpolator::ParameterInterpolator;
 

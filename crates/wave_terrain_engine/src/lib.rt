@@ -13,7 +13,8 @@
 ghost use mathlib.Core.Path.{_≡_};
 ghost use lib.ListN.{length};
 ghost use Rattle.utils.specs.Rendered.{Places, Renders};
-ghost use Rattle.wave_terrain_engine.specs.Block.{Lent, fresh, numTerrains, layerTop, radiusOf, interpolatorsOf, rendered};
+ghost use Rattle.terrain.specs.Layers.{Lent, layerTop};
+ghost use Rattle.wave_terrain_engine.specs.Block.{fresh, numTerrains, radiusOf, interpolatorsOf, rendered};
 use frames::Interpolators;
 use oscillator::sine_oscillator::FastSineOscillator;
 use utils::engine::CORNERS_LENGTH;
@@ -24,10 +25,6 @@ use utils::holds::Holds;
 use utils::parameter_interpolator::ParameterInterpolator;
 
 mod frames;
-mod terrain;
-
-// The bytes of a map.
-pub const MAP_LENGTH: usize = terrain::TERRAIN_SIZE * terrain::TERRAIN_SIZE;
 
 pub struct WaveTerrainEngine {
     pub path: FastSineOscillator,
@@ -48,9 +45,9 @@ impl WaveTerrainEngine {
     pub const TOP_WITH_MAP: usize = 7;
 
     // The last places from which a reading of the map and of the bank stays within.
-    pub const MAP_EDGE: usize = 4030;
+    pub const MAP_EDGE: usize = terrain::MAP_EDGE;
 
-    pub const BANK_EDGE: usize = 25209;
+    pub const BANK_EDGE: usize = terrain::BANK_EDGE;
 
     pub fn init() -> WaveTerrainEngine
         ensures { λ r. ⌜ r ≡ fresh ⌝ }

@@ -18,7 +18,8 @@ use Rattle.wavetable_engine.specs.declared.SetUp.{SetUp}
 use Rattle.wavetable_engine.specs.declared.frames.Positions.{Positions}
 use Rattle.wavetable_engine.specs.declared.frames.Walked.{Walked}
 use Rattle.wavetable_engine.specs.Wavetable.{moved, partsOf, reading, lofi, Frame, framed, setUp, rendered}
-use Rattle.wavetable_engine.specs.Stages.{WalkedBy, KeysFit, CornersRead, mixAt, Differentiating, differentiate, differentiating, sampleOf}
+use Rattle.waves.specs.Stages.{KeysFit, CornersRead, mixAt}
+use Rattle.wavetable_engine.specs.Stages.{WalkedBy, Differentiating, differentiate, differentiating, sampleOf}
 use Rattle.wavetable_engine.proofs.Keys.{key-fits, corners-by-key}
 use Rattle.wavetable_engine.proofs.Walking.{holdsAt, frame-most, parts-fit}
 

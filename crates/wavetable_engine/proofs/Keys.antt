@@ -6,8 +6,9 @@ use native.Mathlib.Nat.{zero-add, mod-eq-of-lt, div-eq-of-lt, add-mul-mod-self-r
 use native.Mathlib.Omega.{arith}
 use lib.IntN.{ℤ}
 use Rattle.wavetable_engine.specs.declared.frames.Parts.{Parts}
-use Rattle.wavetable_engine.specs.Wavetable.{cornersAt}
-use Rattle.wavetable_engine.specs.Stages.{keyOf, KeyFits, PartsFit, cornersOf}
+use Rattle.waves.specs.Waves.{cornersAt}
+use Rattle.waves.specs.Stages.{KeyFits, cornersOf}
+use Rattle.wavetable_engine.specs.Stages.{keyOf, PartsFit}
 
 lowest : (n m b : ℕ) → n < b → (n + m * b) % b ≡ n
 lowest n m b h = add-mul-mod-self-right n m b ∙ mod-eq-of-lt h

@@ -23,7 +23,6 @@ use utils::holds::Holds;
 use utils::parameter_interpolator::ParameterInterpolator;
 
 mod frames;
-mod readings;
 
 // The state, in the order of its kept words.
 pub struct WavetableEngine {
@@ -194,8 +193,8 @@ impl WavetableEngine {
             run_3,
             run_4,
         );
-        readings::read_all(bank, size, keys, run_4, corners);
-        readings::fold_all(size, run_1, run_2, run_3, corners, run_4);
+        waves::read_all(bank, size, keys, run_4, corners);
+        waves::fold_all(size, run_1, run_2, run_3, corners, run_4);
         let diff_out = frames::differentiate_all(
             self.diff_out,
             start.f0_modulation,

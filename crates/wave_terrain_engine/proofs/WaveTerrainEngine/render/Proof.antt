@@ -5,7 +5,7 @@ use Rattle.words.specs.Binary32.{decimal}
 use Rattle.oscillator.proofs.Runs.{run-taken}
 use Rattle.wave_terrain_engine.specs.Block.{scale}
 use Rattle.wave_terrain_engine.proofs.Blocks.{block-renders}
-use Rattle.wave_terrain_engine.proofs.Places.{scale-half}
+use Rattle.wave_terrain_engine.proofs.Constants.{scale-half}
 use native.Mathlib.Omega.{arith}
 use borrow.Author.Needs.{needs}
 use Rattle.wave_terrain_engine.proofs.WaveTerrainEngine.render.Statement.{statement}

@@ -1,7 +1,7 @@
 -- A frame's aux phase: its scale is the one that the source computes.
 use lib.Ieee.{ofBits}
 use Rattle.words.specs.Binary32.{decimal}
-use Rattle.wave_terrain_engine.proofs.Places.{scale-half}
+use Rattle.wave_terrain_engine.proofs.Constants.{scale-half}
 use Rattle.wave_terrain_engine.proofs.frames.aux_phase.Statement.{statement}
 use Rattle.wave_terrain_engine.proofs.frames.aux_phase.Tie as tie
 

@@ -7,10 +7,10 @@ use lib.Ieee.{nan}
 use Rattle.utils.specs.Frames.{sumOf}
 use Rattle.utils.proofs.Sums.{most-more, most-plus}
 use Rattle.oscillator.proofs.Runs.{Filling, filling-none, filling-more}
-use Rattle.wave_terrain_engine.specs.declared.terrain.Reading.{Reading}
+use Rattle.terrain.specs.declared.Reading.{Reading}
 use Rattle.wave_terrain_engine.specs.Stages.{stageHeight}
-use Rattle.wave_terrain_engine.proofs.Counts.{count-none, count-more}
-use Rattle.wave_terrain_engine.proofs.Layers.{top-most, reading-held, stage-held}
+use Rattle.wave_terrain_engine.proofs.Counts.{count-none, count-more, stage-held}
+use Rattle.terrain.proofs.Layers.{top-most, reading-held}
 use Rattle.wave_terrain_engine.proofs.frames.heights.Statement.{statement}
 use Rattle.wave_terrain_engine.proofs.frames.heights.Tie as tie
 

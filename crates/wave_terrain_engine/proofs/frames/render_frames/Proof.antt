@@ -6,7 +6,7 @@ use lib.Seq.{getD-take}
 use lib.Ieee.{nan}
 use Rattle.utils.proofs.Sums.{most-more, most-plus}
 use native.Mathlib.Omega.{arith}
-use Rattle.wave_terrain_engine.proofs.Layers.{top-most}
+use Rattle.terrain.proofs.Layers.{top-most}
 use Rattle.wave_terrain_engine.proofs.Blocks.{layer-fits, staged-frames}
 use borrow.Author.Needs.{needs}
 use Rattle.wave_terrain_engine.proofs.frames.render_frames.Statement.{statement}

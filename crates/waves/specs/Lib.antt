@@ -1,0 +1,2 @@
+pub mod Waves
+pub mod Stages
