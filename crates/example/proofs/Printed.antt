@@ -20,28 +20,10 @@ use Rattle.voice.specs.Voice.{voiceOf, freshState, keptWords, wavetableOf, stat
 use Rattle.formats.specs.Formats.{digits, samplesOf}
 use Rattle.score.specs.Limits.{limit, floatTo, rowWithin, firstBad, badRefusal, limitRefusal}
 use Rattle.score.specs.Rows.{rowAt, putRow}
-use Rattle.score.specs.declared.reader.ReadAnswer.the-variants.{Read}
-use Rattle.score.specs.Text.{
-  split,
-  linesOf,
-  columnOf,
-  sourcesOf,
-  eachReadable,
-  columnCount,
-  eachOnce,
-  holdsNames,
-  isDigit,
-  digitOf,
-  eachDigit,
-  isWord,
-  followedBy,
-  wordOf,
-  eachWord,
-  holdsWords,
-  rowOf,
-  rowsOf,
-}
-use Rattle.score.specs.Reading.{outcome, lineNumber, testLines, testText, textRows, countNumber, settle, readText, scoreTable, readOf, editTable, readEditsOf}
+use Rattle.reader.specs.declared.ReadAnswer.the-variants.{Read}
+use Rattle.text.specs.Text.{split, linesOf, columnOf, isDigit, digitOf, eachDigit, isWord, followedBy, wordOf, eachWord}
+use Rattle.reader.specs.Sources.{sourcesOf, eachReadable, columnCount, eachOnce, holdsNames, holdsWords, rowOf, rowsOf}
+use Rattle.reader.specs.Reading.{outcome, lineNumber, testLines, testText, textRows, countNumber, settle, readText, scoreTable, readOf, editTable, readEditsOf}
 use Rattle.rows.specs.Rows.{parametersOf, startOf, rowFrom, rowBy, beforeRow, both, stopsOf, runOf, Setup, Take, Run, idle}
 use Rattle.refusals.specs.Refusals.{rowCount, settingsNumber, lengthsNumber, lentNumber, scoreRefusal, refusalOf, renderRefusal, editRefusal}
 use Rattle.take.specs.Take.{Outcome, ran, renderOf, retakeOf, editOf}

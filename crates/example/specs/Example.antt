@@ -4,7 +4,7 @@ use Prim.Native.String.{String}
 use mathlib.Core.Path.{_≡_}
 use mathlib.Core.List.{List, [], _∷_, _++_}
 use lib.ListN.{length}
-use Rattle.score.specs.Text.{bytes, lf}
+use Rattle.text.specs.Text.{bytes, lf}
 use Rattle.inputs.specs.Inputs.{bankBytes}
 use Rattle.retake_lib.specs.Program.{program}
 

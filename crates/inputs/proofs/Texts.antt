@@ -8,14 +8,14 @@ use borrow.Author.Tests.{eqb-true}
 use lib.Dec.{eqb, ltb, eqb→eq}
 use lib.ListN.{length, drop, length-replicate}
 use Rattle.score.specs.declared.refusal.Refusal.{Refusal}
-use Rattle.score.specs.declared.reader.ReadAnswer.{ReadAnswer}
-use Rattle.score.specs.declared.reader.ReadAnswer.the-variants.{Read, Refused}
+use Rattle.reader.specs.declared.ReadAnswer.{ReadAnswer}
+use Rattle.reader.specs.declared.ReadAnswer.the-variants.{Read, Refused}
 use Rattle.score.specs.Rows.{rowWords}
 use Rattle.score.specs.Numbers.{refusal, bankNumber, spaceNumber}
-use Rattle.score.specs.Reading.{Outcome, outcome, refuse, testText, textRows, countNumber, settle, readText, scoreTable, editTable, readOf, readEditsOf, editWords}
-use Rattle.score.specs.Text.{linesOf}
-use Rattle.score.proofs.Accepted.{accepted-passes}
-use Rattle.score.proofs.Settling.{room}
+use Rattle.reader.specs.Reading.{Outcome, outcome, refuse, testText, textRows, countNumber, settle, readText, scoreTable, editTable, readOf, readEditsOf, editWords}
+use Rattle.text.specs.Text.{linesOf}
+use Rattle.reader.proofs.Accepted.{accepted-passes}
+use Rattle.reader.proofs.Settling.{room}
 use Rattle.inputs.specs.declared.Inputs.{Inputs}
 use Rattle.inputs.specs.declared.Inputs.the-variants.{Taken, Turned}
 use Rattle.inputs.specs.Inputs.{mostText, mostRows, mostEdits, bankBytes, zeros, textOf, scoreText, editsText, inputsOf, TextsRead, Given}

@@ -7,9 +7,9 @@ use lib.Dec.{eqb, ltb}
 use lib.ListN.{length, replicate}
 use Rattle.score.specs.Rows.{rowWords}
 use Rattle.score.specs.Numbers.{refusal, bankNumber, spaceNumber}
-use Rattle.score.specs.declared.reader.ReadAnswer.{ReadAnswer}
-use Rattle.score.specs.declared.reader.ReadAnswer.the-variants.{Read, Refused}
-use Rattle.score.specs.Reading.{Outcome, refuse, readOf, readEditsOf, editWords}
+use Rattle.reader.specs.declared.ReadAnswer.{ReadAnswer}
+use Rattle.reader.specs.declared.ReadAnswer.the-variants.{Read, Refused}
+use Rattle.reader.specs.Reading.{Outcome, refuse, readOf, readEditsOf, editWords}
 use Rattle.inputs.specs.declared.Inputs.{Inputs}
 use Rattle.inputs.specs.declared.Inputs.the-variants.{Taken, Turned}
 

@@ -2,11 +2,11 @@
 ghost use mathlib.Core.Path.{_≡_};
 ghost use Prim.Native.Nat.{_*_};
 ghost use Rattle.score.specs.Rows.{rowWords};
-ghost use Rattle.score.specs.Reading.{outcome, readOf, readEditsOf, editWords};
+ghost use Rattle.reader.specs.Reading.{outcome, readOf, readEditsOf, editWords};
 ghost use Rattle.inputs.specs.Inputs.{zeros, mostRows, mostEdits, textOf, inputsOf, TextsRead};
 use oscillator::bank::BANK_LENGTH;
-use score::reader::EDIT_WORDS;
-use score::reader::ReadAnswer;
+use reader::EDIT_WORDS;
+use reader::ReadAnswer;
 use score::refusal::BANK;
 use score::refusal::Refusal;
 use score::refusal::SPACE;
@@ -52,7 +52,7 @@ fn read_score(text: &[u8], rows: &mut [u32]) -> ReadAnswer
             place: 0,
         });
     }
-    score::reader::read(text, rows)
+    reader::read(text, rows)
 }
 
 // Reads the edits' text.
@@ -65,7 +65,7 @@ fn read_edits(text: &[u8], edits: &mut [u32]) -> ReadAnswer
             place: 0,
         });
     }
-    score::reader::read_edits(text, edits)
+    reader::read_edits(text, edits)
 }
 
 // The first refusal is the score's, then the edits', then the bank's, which is known by its length.

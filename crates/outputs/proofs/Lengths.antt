@@ -5,7 +5,7 @@ use native.Mathlib.Omega.{arith}
 use lib.ListN.{length, set, length-append}
 use Rattle.formats.specs.Formats.{Written, mostDigits, decimalOf}
 use Rattle.formats.proofs.Bytes.{digits-most, put-more}
-use Rattle.score.specs.Text.{lf, space}
+use Rattle.text.specs.Text.{lf, space}
 use Rattle.take.specs.declared.Answer.{Answer}
 use Rattle.take.specs.declared.Answer.the-variants.{Done, Refused}
 use Rattle.outputs.specs.Lines.{number, countsLine, refusedLine, editLine, mostNumber, mostLine}

@@ -4,7 +4,7 @@ use mathlib.Core.Path.{_≡_}
 use mathlib.Core.List.{List, [], _∷_, _++_}
 use lib.ListN.{length, take}
 use Rattle.formats.specs.Formats.{Written, lowFirst}
-use Rattle.score.specs.Text.{bytes}
+use Rattle.text.specs.Text.{bytes}
 use Rattle.outputs.specs.declared.files.Place.{Place}
 use Rattle.outputs.specs.declared.files.Files.{Files}
 use Rattle.outputs.specs.declared.files.Files.the-variants.{Nothing, Both}

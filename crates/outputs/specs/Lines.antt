@@ -2,7 +2,7 @@
 use Prim.Native.Nat.{ℕ, _+_, _*_}
 use mathlib.Core.List.{List, [], _∷_, _++_}
 use Rattle.formats.specs.Formats.{mostDigits, decimalOf}
-use Rattle.score.specs.Text.{bytes, lf, space}
+use Rattle.text.specs.Text.{bytes, lf, space}
 use Rattle.take.specs.declared.Answer.{Answer}
 use Rattle.take.specs.declared.Answer.the-variants.{Done, Refused}
 

@@ -3,8 +3,7 @@
 use Prim.Native.Nat.{ℕ}
 use mathlib.Core.List.{List, [], _∷_}
 use Rattle.score.specs.Numbers.{Result}
-use Rattle.score.specs.Numbers as reader
-use Rattle.score.specs.Reading as reading
+use Rattle.reader.specs.Reading as reading
 use Rattle.rows.specs.declared.Settings.{Settings}
 use Rattle.rows.specs.Rows.{Take}
 use Rattle.take.specs.Take.{resultOf, Outcome}
@@ -44,7 +43,7 @@ abbrev pub read : Given → List ℕ → Read
 read result rows = record { result = result; rows = rows }
 
 abbrev pub ofReading : reading.Outcome → Read
-ofReading o = read (givenOf (reader.resultOf (o .answer))) (o .rows)
+ofReading o = read (givenOf (reading.resultOf (o .answer))) (o .rows)
 
 -- After rendering or an edit: the result, the lent row words, and the lent take.
 pub record Called : Type 0 where

@@ -3,13 +3,13 @@
 ghost use mathlib.Core.Path.{_≡_};
 ghost use mathlib.Core.List.{_∷_, []};
 ghost use Rattle.score.specs.Numbers.{refused};
-ghost use Rattle.score.specs.Numbers as reader;
-ghost use Rattle.score.specs.Reading.{readOf};
+ghost use Rattle.reader.specs.Reading.{readOf};
+ghost use Rattle.reader.specs.Reading as reading;
 ghost use Rattle.rows.specs.Rows.{setup, lent};
 ghost use Rattle.take.specs.Take.{resultOf, renderOf, editOf};
 ghost use Rattle.retake_c.specs.Calls.{given, givenOf, settings, read, ofReading, called, ofCall};
+use reader::ReadAnswer;
 use rows::Settings;
-use score::reader::ReadAnswer;
 use score::refusal::Refusal;
 use take::Answer;
 
@@ -32,7 +32,7 @@ fn refused_values(refusal: Refusal) -> Values
 }
 
 fn read_values(answer: ReadAnswer) -> Values
-    ensures { λ r. ⌜ given (r .number) (r .first) (r .second) ≡ givenOf (reader.resultOf answer) ⌝ }
+    ensures { λ r. ⌜ given (r .number) (r .first) (r .second) ≡ givenOf (reading.resultOf answer) ⌝ }
 {
     match answer {
         ReadAnswer::Read(count) => Values {
@@ -69,7 +69,7 @@ pub extern "C" fn retake_read_score(
         read (given r (now (first .exit)) (now (second .exit))) (now (rows .exit))
         ≡ ofReading (readOf (now (text .entry)) (now (rows .entry))) ⌝ }
 {
-    let answer = score::reader::read(text, rows);
+    let answer = reader::read(text, rows);
     let v = read_values(answer);
     *first = v.first;
     *second = v.second;

@@ -5,7 +5,7 @@ use Prim.Native.Nat.{ℕ, suc, _+_, _*_, _≤_, _<_, zero-le}
 use native.Mathlib.Omega.{arith}
 use lib.ListN.{length, getD, drop, length-append, take-append-drop}
 use lib.Seq.{getD-drop, drop-drop}
-use Rattle.score.specs.Reading.{editWords}
+use Rattle.reader.specs.Reading.{editWords}
 use Rattle.take.specs.declared.Answer.{Answer}
 use Rattle.rows.specs.Rows.{Setup, Take}
 use Rattle.take.specs.Take.{Outcome, outcome, editOf}

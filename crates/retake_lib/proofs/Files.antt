@@ -12,14 +12,14 @@ use lib.Seq.{length-take-le, take-take, take-nil}
 use Rattle.formats.specs.Formats.{samplesOf}
 use Rattle.oscillator.specs.Bank.{bankLength}
 use Rattle.voice.specs.Voice.{keptCount}
-use Rattle.score.specs.declared.reader.ReadAnswer.the-variants.{Read}
+use Rattle.reader.specs.declared.ReadAnswer.the-variants.{Read}
 use Rattle.score.specs.Rows.{rowWords}
 use Rattle.score.specs.Rows as score
 use Rattle.score.specs.Limits.{limitRefusal}
 use Rattle.score.proofs.FirstBad.{limit-of-take}
 use Rattle.score.specs.Numbers.{refusal, accepted, spaceNumber}
-use Rattle.score.specs.Reading.{refuse, readOf, Accepted}
-use Rattle.score.proofs.Accepted.{accepted-passes}
+use Rattle.reader.specs.Reading.{refuse, readOf, Accepted}
+use Rattle.reader.proofs.Accepted.{accepted-passes}
 use Rattle.rows.specs.Rows.{Take}
 use Rattle.refusals.specs.Refusals.{rowCount, renderRefusal, refusalOf, lentNumber, settingsNumber, lengthsNumber}
 use Rattle.take.specs.Take.{resultOf, renderOf}

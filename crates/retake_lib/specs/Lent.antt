@@ -4,7 +4,7 @@ use mathlib.Core.Path.{_≡_}
 use mathlib.Core.List.{List}
 use lib.ListN.{length}
 use Rattle.formats.specs.Formats.{Written}
-use Rattle.score.specs.Reading.{editWords}
+use Rattle.reader.specs.Reading.{editWords}
 use Rattle.take.specs.declared.Answer.{Answer}
 use Rattle.rows.specs.Rows.{Setup, Take}
 use Rattle.take.specs.Take.{outcome}

@@ -6,7 +6,7 @@ use lib.IntN.{ℤ}
 use lib.ListN.{length, getD, take, drop}
 use Rattle.formats.specs.Formats.{samplesOf}
 use Rattle.score.specs.Rows.{rowWords}
-use Rattle.score.specs.Reading.{editWords}
+use Rattle.reader.specs.Reading.{editWords}
 use Rattle.score.specs.declared.refusal.Refusal.{Refusal}
 use Rattle.voice.specs.Voice.{keptCount}
 use Rattle.rows.specs.declared.Settings.{Settings}

@@ -2,8 +2,6 @@
 use Prim.Native.Nat.{ℕ}
 use mathlib.Core.List.{List, [], _∷_}
 use Rattle.score.specs.declared.refusal.Refusal.{Refusal}
-use Rattle.score.specs.declared.reader.ReadAnswer.{ReadAnswer}
-use Rattle.score.specs.declared.reader.ReadAnswer.the-variants.{Read, Refused}
 
 -- ---- the table
 
@@ -79,8 +77,3 @@ done values = record { number = 0; values = values }
 -- A refusal has its number, and carries its place.
 abbrev pub refused : Refusal → Result
 refused r = record { number = r .number; values = r .place ∷ [] }
-
--- "Success carries the row count (reader)."
-unfoldable pub resultOf : ReadAnswer → Result
-resultOf (Read count) = done (count ∷ [])
-resultOf (Refused r) = refused r

@@ -1,9 +1,4 @@
-// The score side's lowest layer: rows and their limits, the numbers of all refusals, and the reader of score and edits texts.
+// The score side's lowest layer: rows and their limits, and the numbers of all refusals.
 pub mod limits;
-mod lines;
-mod pieces;
-pub mod reader;
 pub mod refusal;
 pub mod rows;
-mod table;
-mod word;

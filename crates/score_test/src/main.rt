@@ -3,7 +3,7 @@
 // An LF after that byte belongs to no text.
 use libc::STDIN_FILENO;
 use libc::STDOUT_FILENO;
-use score::reader::ReadAnswer;
+use reader::ReadAnswer;
 ghost use Prim.Native.Nat.{_≤_, _<_};
 ghost use lib.ListN.{length};
 
@@ -67,15 +67,15 @@ fn show(answer: ReadAnswer, words: &[u32]) {
 fn run(text: &[u8], how: u8) {
     if how == b'~' {
         let mut rows = [FILL; 20];
-        let answer = score::reader::read(text, &mut rows);
+        let answer = reader::read(text, &mut rows);
         show(answer, &rows);
     } else if how == b'<' {
         let mut rows = [FILL; 14];
-        let answer = score::reader::read(text, &mut rows);
+        let answer = reader::read(text, &mut rows);
         show(answer, &rows);
     } else {
         let mut edits = [FILL; 18];
-        let answer = score::reader::read_edits(text, &mut edits);
+        let answer = reader::read_edits(text, &mut edits);
         show(answer, &edits);
     }
 }
@@ -169,7 +169,7 @@ fn long_text(text: &mut [u8], lines: usize, tail: &[u8]) -> usize
 // Reads such a score into `words`, and shows the last of them.
 fn read_long(text: &mut [u8], lines: usize, tail: &[u8], words: &mut [u32]) {
     let end = long_text(text, lines, tail);
-    let answer = score::reader::read(&text[..end], words);
+    let answer = reader::read(&text[..end], words);
     match answer {
         ReadAnswer::Read(_) => show_last(answer, words),
         ReadAnswer::Refused(_) => show(answer, words),

@@ -10,4 +10,5 @@ pub mod ByRounding
 pub mod HeldWhole
 pub mod Copying
 pub mod Places
+pub mod Cases
 pub mod Bench

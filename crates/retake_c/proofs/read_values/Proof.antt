@@ -1,6 +1,6 @@
 -- `retake_c::read_values` meets its contract: by the answer's case.
 use borrow.Author.Needs.{needs}
-use Rattle.score.specs.Numbers.{resultOf}
+use Rattle.reader.specs.Reading.{resultOf}
 use Rattle.retake_c.specs.Calls.{firstOf, secondOf, givenOf}
 use Rattle.retake_c.proofs.read_values.Statement.{statement}
 use Rattle.retake_c.proofs.read_values.Tie as tie

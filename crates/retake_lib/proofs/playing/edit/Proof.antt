@@ -2,7 +2,7 @@
 use native.Mathlib.Omega.{arith}
 use Prim.Native.Nat.{_*_}
 use borrow.Author.Needs.{needs}
-use Rattle.score.specs.Reading.{editWords}
+use Rattle.reader.specs.Reading.{editWords}
 use Rattle.retake_lib.proofs.Editing.{edit-done}
 use Rattle.retake_lib.proofs.playing.edit.Statement.{statement}
 use Rattle.retake_lib.proofs.playing.edit.Tie as tie

@@ -1,0 +1,3 @@
+// Bytes of a text: lines, fields, and words in hexadecimal digits.
+pub mod pieces;
+pub mod word;
