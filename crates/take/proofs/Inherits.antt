@@ -10,6 +10,7 @@ use borrow.Author.Tests.{ltb-false}
 use lib.Dec.{ltb}
 use lib.ListN.{take, drop}
 use lib.Seq.{drop-drop}
+use Rattle.words.proofs.Cases.{le-or-lt}
 use Rattle.score.specs.Rows.{rowWords, rowAt}
 use Rattle.score.specs.Limits.{rowWithin, firstBad, badRefusal, limitRefusal}
 use Rattle.score.specs.Numbers.{refusal, accepted, limitNumber}
@@ -21,7 +22,7 @@ use Rattle.take.proofs.Calls.{render-limits, render-run, edit-refused, 
 use Rattle.take.proofs.Takes.{words-elsewhere}
 use Rattle.take.proofs.Runs.{Ran}
 use Rattle.take.proofs.Editing.{edit-unchanged, edited-run, edit-ran, by-cases, edit-count}
-use Rattle.take.proofs.Retakes.{lt-or-le, accepted-is, all, render-ran, rendered-rows}
+use Rattle.take.proofs.Retakes.{accepted-is, all, render-ran, rendered-rows}
 
 -- ---- A score that 9 does not refuse.
 
@@ -70,16 +71,18 @@ module _ (s : Setup) (Has : Take → Type 0) (law : Inherits s Has) where
     -- If the rows that it leaves have it, so have all.
     run-has : ((i : ℕ) → (i < a) ⊎ (a + r .report .rows ≤ i) → i < n → Has (wordsAt (s .frames) t i)) → (j : ℕ) → j ≤ n → Before u j
     run-has h zero l i m = absurd (omega arith)
-    run-has h (suc j) l i m = go (run-has h j (omega arith)) (lt-or-le i j)
+    run-has h (suc j) l i m = go (run-has h j (omega arith)) (le-or-lt j i)
       where
-        row : Before u j → (j < a) ⊎ (a ≤ j) → (j < a + r .report .rows) ⊎ (a + r .report .rows ≤ j) → Has (wordsAt (s .frames) u j)
-        row b (inl x) y = elsewhere-has j (inl x) (h j (inl x) (omega arith))
-        row b (inr x) (inl y) = made-has j x y b
-        row b (inr x) (inr y) = elsewhere-has j (inr y) (h j (inr y) (omega arith))
+        row : Before u j → (a ≤ j) ⊎ (j < a) → (a + r .report .rows ≤ j) ⊎ (j < a + r .report .rows) → Has (wordsAt (s .frames) u j)
+        row b (inr x) y = elsewhere-has j (inl x) (h j (inl x) (omega arith))
+        row b (inl x) (inr y) = made-has j x y b
+        row b (inl x) (inl y) = elsewhere-has j (inr y) (h j (inr y) (omega arith))
 
-        go : Before u j → (i < j) ⊎ (j ≤ i) → Has (wordsAt (s .frames) u i)
-        go b (inl x) = b i x
-        go b (inr x) = let q : j ≡ i = omega arith in subst (λ (k : ℕ). Has (wordsAt (s .frames) u k)) q (row b (lt-or-le j a) (lt-or-le j (a + r .report .rows)))
+        go : Before u j → (j ≤ i) ⊎ (i < j) → Has (wordsAt (s .frames) u i)
+        go b (inr x) = b i x
+        go b (inl x) =
+            let q : j ≡ i = omega arith in
+            subst (λ (k : ℕ). Has (wordsAt (s .frames) u k)) q (row b (le-or-lt a j) (le-or-lt (a + r .report .rows) j))
 
   -- ---- One edit.
 

@@ -12,6 +12,7 @@ use lib.Dec.{eqb, ltb}
 use lib.ListN.{length, take, drop, take-append-drop}
 use lib.Seq.{take-all}
 use Rattle.words.specs.Lists.{put, same}
+use Rattle.words.proofs.Cases.{le-or-lt}
 use Rattle.words.proofs.Places.{part-outside}
 use Rattle.utils.specs.declared.holds.Holds.{Holds}
 use Rattle.score.specs.declared.refusal.Refusal.{Refusal}
@@ -54,13 +55,6 @@ use Rattle.take.proofs.Editing.{edit-unchanged, edited-run, edit-ran, r
 -- A row's own words put in change nothing.
 put-same : (l x : List ℕ) (a n : ℕ) → length x ≡ n → take n (drop a l) ≡ x → put l a x ≡ l
 put-same l x a n e w = rw (e, sym w, take-append-drop n (drop a l)) (take-append-drop a l)
-
-pub lt-or-le : (i j : ℕ) → (i < j) ⊎ (j ≤ i)
-lt-or-le i j = go (ltb i j) (ltb-true i j) (ltb-false i j)
-  where
-    go : (b : Bool) → (b ≡ true → i < j) → (b ≡ false → j ≤ i) → (i < j) ⊎ (j ≤ i)
-    go true f g = inl (f refl)
-    go false f g = inr (g refl)
 
 -- A row that restarts is made from its own words alone.
 row-restarts : (s : Setup) (row a b : List ℕ) → wordFor restart row ≡ 1 → rowBy s row a ≡ rowBy s row b
@@ -236,12 +230,12 @@ module _ (s : Setup) (rows : List ℕ) (t : Take) (e : Edit) (f : Stands s rows 
           by (inr (inr x)) = ap (λ (b : List ℕ). rowBy s (rowAt rows' (d .stop)) b) (sym x)
 
       made : (i : ℕ) → i < rowCount rows → Made s rows' u i
-      made i h = go (lt-or-le i k) (lt-or-le i (d .stop))
+      made i h = go (le-or-lt k i) (le-or-lt (d .stop) i)
         where
-          go : (i < k) ⊎ (k ≤ i) → (i < d .stop) ⊎ (d .stop ≤ i) → Made s rows' u i
-          go (inl x) y = early i h x
-          go (inr x) (inl y) = d .made i x y
-          go (inr x) (inr y) = late i h (eq-or-lt-of-le y)
+          go : (k ≤ i) ⊎ (i < k) → (d .stop ≤ i) ⊎ (i < d .stop) → Made s rows' u i
+          go (inr x) y = early i h x
+          go (inl x) (inr y) = d .made i x y
+          go (inl x) (inl y) = late i h (eq-or-lt-of-le y)
 
       long : length rows' ≡ length rows
       long = rows-long s rows t e z w

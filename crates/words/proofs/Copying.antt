@@ -10,6 +10,7 @@ use lib.Dec.{eqb}
 use lib.ListN.{length, take, drop, set, getD, length-set, length-take, length-drop, drop-of-length-le}
 use lib.Seq.{take-suc, drop-cons, set-at, length-take-le, append-snoc, take-all}
 use Rattle.words.specs.Lists.{put, same}
+use Rattle.words.proofs.Cases.{both}
 
 -- ---- Comparing.
 
@@ -51,10 +52,6 @@ same-eq (x ∷ xs) [] e = absurd (false≢true e)
 same-eq (x ∷ xs) (y ∷ ys) e =
     let t = both (eqb x y) (same xs ys) e in
     ap (λ (z : ℕ). z ∷ xs) (eqb-true x y (t .0)) ∙ ap (λ (zs : List ℕ). y ∷ zs) (same-eq xs ys (t .1))
-  where
-    both : (a b : Bool) → a && b ≡ true → (a ≡ true) × (b ≡ true)
-    both true b e = (refl, e)
-    both false b e = absurd (false≢true e)
 
 pub same-refl : (xs : List ℕ) → same xs xs ≡ true
 unfolding same
