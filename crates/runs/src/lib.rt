@@ -8,6 +8,9 @@ ghost use Rattle.runs.specs.Inner.{Blocks, Room, Holding, Makes, RowDone
 use rows::Report;
 use rows::Settings;
 use score::rows::ROW_WORDS;
+use utils::engine::CORNERS_LENGTH;
+use utils::engine::MOST_FRAMES;
+use utils::engine::RUN_LENGTH;
 use utils::holds::Holds;
 use voice::KEPT_WORDS;
 
@@ -25,12 +28,12 @@ fn make_row(
     sine: &[f32; 641],
     high: &[f32; 256],
     low: &[f32; 256],
-    keys: &mut [u32; 128],
-    run_1: &mut [f32; 256],
-    run_2: &mut [f32; 256],
-    run_3: &mut [f32; 256],
-    run_4: &mut [f32; 256],
-    corners: &mut [f32; 1024],
+    keys: &mut [u32; MOST_FRAMES],
+    run_1: &mut [f32; RUN_LENGTH],
+    run_2: &mut [f32; RUN_LENGTH],
+    run_3: &mut [f32; RUN_LENGTH],
+    run_4: &mut [f32; RUN_LENGTH],
+    corners: &mut [f32; CORNERS_LENGTH],
     row: [u32; ROW_WORDS],
     before: [u32; KEPT_WORDS],
     out: &mut [u32],
@@ -80,12 +83,12 @@ fn render_row(
     sine: &[f32; 641],
     high: &[f32; 256],
     low: &[f32; 256],
-    keys: &mut [u32; 128],
-    run_1: &mut [f32; 256],
-    run_2: &mut [f32; 256],
-    run_3: &mut [f32; 256],
-    run_4: &mut [f32; 256],
-    corners: &mut [f32; 1024],
+    keys: &mut [u32; MOST_FRAMES],
+    run_1: &mut [f32; RUN_LENGTH],
+    run_2: &mut [f32; RUN_LENGTH],
+    run_3: &mut [f32; RUN_LENGTH],
+    run_4: &mut [f32; RUN_LENGTH],
+    corners: &mut [f32; CORNERS_LENGTH],
     rows: &[u32],
     k: usize,
     out: &mut [u32],
@@ -136,12 +139,12 @@ fn run_rows(
     sine: &[f32; 641],
     high: &[f32; 256],
     low: &[f32; 256],
-    keys: &mut [u32; 128],
-    run_1: &mut [f32; 256],
-    run_2: &mut [f32; 256],
-    run_3: &mut [f32; 256],
-    run_4: &mut [f32; 256],
-    corners: &mut [f32; 1024],
+    keys: &mut [u32; MOST_FRAMES],
+    run_1: &mut [f32; RUN_LENGTH],
+    run_2: &mut [f32; RUN_LENGTH],
+    run_3: &mut [f32; RUN_LENGTH],
+    run_4: &mut [f32; RUN_LENGTH],
+    corners: &mut [f32; CORNERS_LENGTH],
     rows: &[u32],
     n: usize,
     from: usize,
@@ -219,12 +222,12 @@ pub fn run(
     let sine = oscillator::sine::sine_table();
     let high = utils::units::pitch_ratio_high();
     let low = utils::units::pitch_ratio_low();
-    let mut keys = [0; 128];
-    let mut run_1 = [0.0; 256];
-    let mut run_2 = [0.0; 256];
-    let mut run_3 = [0.0; 256];
-    let mut run_4 = [0.0; 256];
-    let mut corners = [0.0; 1024];
+    let mut keys = [0; MOST_FRAMES];
+    let mut run_1 = [0.0; RUN_LENGTH];
+    let mut run_2 = [0.0; RUN_LENGTH];
+    let mut run_3 = [0.0; RUN_LENGTH];
+    let mut run_4 = [0.0; RUN_LENGTH];
+    let mut corners = [0.0; CORNERS_LENGTH];
     run_rows(
         settings,
         bank,

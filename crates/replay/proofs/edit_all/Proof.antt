@@ -7,7 +7,8 @@ use Rattle.replay.proofs.edit_all.Statement.{statement}
 use Rattle.replay.proofs.edit_all.Tie as tie
 
 abbrev Inv-loop : tie.InvT-loop
-Inv-loop file s from bank map rows₀ out₀ aux₀ kept₀ i₀ rows out aux kept i = (i ≤ 8) × ((length rows ≡ length rows₀) × ((length out ≡ length out₀) × ((length aux ≡ length aux₀) × (length kept ≡ length kept₀))))
+Inv-loop file s from bank map rows₀ out₀ aux₀ kept₀ i₀ rows out aux kept i =
+    (i ≤ 8) × ((length rows ≡ length rows₀) × ((length out ≡ length out₀) × ((length aux ≡ length aux₀) × (length kept ≡ length kept₀))))
 
 abbrev μ-loop : tie.MeasureT-loop
 μ-loop file s from bank map rows₀ out₀ aux₀ kept₀ i₀ rows out aux kept i = 8 - i

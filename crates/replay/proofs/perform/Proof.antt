@@ -17,7 +17,9 @@ render-one-requires : tie.Need-render-one-requires
 render-one-requires c κs = search needs
 
 edit-all-requires : tie.Need-edit-all-requires
-edit-all-requires c κs = omega (arith, c .before .before .before .before .before .before .before .before .before .before .before .before .before .before .before .before .before .before .before .before .before .before .before .before .before .before .before .pre)
+edit-all-requires c κs =
+    let rendered = c .before .before .before .before .before .before .before .before .before .before .before .before .before .before in
+    omega (arith, rendered .before .before .before .before .before .before .before .before .before .before .before .before .before .pre)
 
 print-edited-requires : tie.Need-print-edited-requires
 print-edited-requires c κs = search needs

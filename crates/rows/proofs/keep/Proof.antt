@@ -1,5 +1,6 @@
 -- `keep` compares and then puts in a row's kept words, by `put-is`.
 use Rattle.words.proofs.Copying.{put-is}
+use Rattle.voice.specs.Voice.{keptCount}
 use native.Mathlib.Omega.{arith}
 use Prim.Native.Nat.{_+_, _-_, _*_}
 use mathlib.Core.Path.{_≡_}
@@ -57,7 +58,7 @@ returns c =
     let copied = c .before .before .copy-words in
     let compared = c .before .before .before .before .before in
     let entry = compared .before .before .before .before .before in
-    let d : entry .args .k * 13 + 13 - entry .args .k * 13 ≡ 13 = omega arith in (
+    let d : entry .args .k * keptCount + keptCount - entry .args .k * keptCount ≡ keptCount = omega arith in (
       rw d at (compared .same-words .ensures),
       put-is (entry .args .kept .now) _ _ _ _ (entry .pre .1) (copied .ensures) (copied .kept .1 .0),
     )
