@@ -2,9 +2,10 @@
 use mathlib.Core.Path.{_≡_, refl, sym, ap, _∙_}
 use mathlib.Core.List.{List, _++_}
 use Prim.Native.Nat.{ℕ, _+_, _<_}
+use native.Mathlib.Nat.{add-zero}
 use native.Mathlib.Omega.{arith}
-use lib.ListN.{length, set, take, drop, length-set, take-append-drop}
-use lib.Seq.{length-take-le, getD-take, ext-getD, drop-set-lt, drop-drop, take-at}
+use lib.ListN.{length, getD, set, take, drop, length-set, take-append-drop}
+use lib.Seq.{length-take-le, getD-take, getD-drop, ext-getD, drop-set-lt, drop-drop, take-at}
 use Rattle.utils.specs.Frames.{stateAfter, eachOf, Filled}
 use Rattle.utils.proofs.Frames.{filled-none, filled-more, each-length, each-at}
 
@@ -25,6 +26,13 @@ module _ {A : Type 0} (f : ℕ → A) (d : A) where
         filled = filled-more f d xs i v (rw (p .long) l) e (p .filled);
         rest = drop-set-lt (i + 1) xs i v (omega arith) ∙ sym (drop-drop 1 i xs) ∙ ap (drop 1) (p .rest) ∙ drop-drop 1 i xs₀;
       }
+
+  -- the next entry still stands as it was lent
+  pub filling-next : (xs₀ xs : List A) (i : ℕ) → Filling f d xs₀ xs i → getD xs i d ≡ getD xs₀ i d
+  filling-next xs₀ xs i p = sym (here xs) ∙ ap (λ (l : List A). getD l 0 d) (p .rest) ∙ here xs₀
+    where
+      here : (l : List A) → getD (drop i l) 0 d ≡ getD l i d
+      here l = getD-drop i l 0 d ∙ ap (λ (k : ℕ). getD l k d) (add-zero i)
 
 module _ {S A : Type 0} (next : S → S) (f : S → A) (d : A) where
   begins-with : (xs : List A) (n : ℕ) (s : S) → Filled (λ j. f (stateAfter next j s)) d xs n → take n xs ≡ eachOf next f n s

@@ -19,3 +19,7 @@ tableSize = 128
 
 abbrev pub tableSizeF : Float
 tableSizeF = ofCount tableSize
+
+-- "tops: phase 127": the highest whole phase, in samples of a period.
+abbrev pub phaseTop : ℕ
+phaseTop = 127

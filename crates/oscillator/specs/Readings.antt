@@ -1,14 +1,24 @@
 -- Document 01, "Interpolators and differentiator" (`wavetable_oscillator.rs`), and `interpolate_integrated_wave` of `wave_terrain_engine.rs`.
 -- The readings are over any element that has a float; `none` is what stands past a table's end, where nothing reads.
 use Prim.Native.Nat.{ℕ, _+_}
+use mathlib.Core.Bool.{cond}
 use mathlib.Core.List.{List}
 use lib.IntN.{ℤ}
 use lib.ListN.{getD}
-use lib.Ieee.{Float, binary32, ofInt}
+use lib.Ieee.{Float, binary32, le, ofInt}
 use Rattle.words.specs.Binary32.{_⊕_, _⊖_, _⊗_, decimal, ofCount}
-use Rattle.utils.specs.Utils.{onePole}
+use Rattle.utils.specs.Utils.{minOf, onePole}
+use Rattle.oscillator.specs.Bank.{tableSizeF}
 use Rattle.oscillator.specs.declared.wavetable_oscillator.Differentiator.{Differentiator}
 use Rattle.oscillator.specs.declared.wavetable_oscillator.Differentiated.{Differentiated}
+
+-- The phase one frame on: `phase += f0`, and 1 less from 1 on.
+abbrev pub advanced : Float → Float → Float
+advanced phase f0 = cond (le (decimal 1 0) (phase ⊕ f0)) (phase ⊕ f0 ⊖ decimal 1 0) (phase ⊕ f0)
+
+-- The differentiator's coefficient: `f32::min(128.0 * f0, 1.0)`.
+unfoldable pub cutoffOf : Float → Float
+cutoffOf f0 = minOf (tableSizeF ⊗ f0) (decimal 1 0)
 
 -- "The differentiator hands back its next state with each sample."
 abbrev pub differentiated : Differentiator → Float → Float → Differentiated

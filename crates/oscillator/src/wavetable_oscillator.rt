@@ -4,7 +4,23 @@ ghost use mathlib.Core.Path.{_≡_};
 ghost use Prim.Native.Nat.{_+_, _<_};
 ghost use lib.ListN.{length};
 ghost use lib.IntN.{pos};
-ghost use Rattle.oscillator.specs.Readings.{differentiated, floatOfI16, floatOfU8, entryAt, interpolateWave, interpolateWaveHermite, interpolateIntegratedWave};
+ghost use Rattle.oscillator.specs.Readings.{advanced, cutoffOf, differentiated, floatOfI16, floatOfU8, entryAt, interpolateWave, interpolateWaveHermite, interpolateIntegratedWave};
+use crate::bank::TABLE_SIZE_F;
+
+// The phase one frame on.
+pub fn advance(phase: f32, f0: f32) -> f32
+    ensures { λ r. ⌜ r ≡ advanced phase f0 ⌝ }
+{
+    let next = phase + f0;
+    if next >= 1.0 { next - 1.0 } else { next }
+}
+
+// The differentiator's coefficient.
+pub fn cutoff(f0: f32) -> f32
+    ensures { λ r. ⌜ r ≡ cutoffOf f0 ⌝ }
+{
+    utils::min(TABLE_SIZE_F * f0, 1.0)
+}
 
 pub struct Differentiator {
     pub lp: f32,

@@ -8,7 +8,7 @@ use native.Mathlib.Omega.{arith}
 use lib.ListN.{length, getD, set, length-set}
 use lib.Seq.{getD-set-same, getD-set-other, ext-getD}
 use borrow.Author.Count.{below-more}
-use Rattle.utils.specs.Holds.{plus, total, AtMost}
+use Rattle.utils.specs.Holds.{none, plus, total, AtMost}
 use Rattle.utils.specs.Frames.{stateAfter, eachOf, sumOf, Filled}
 use Rattle.utils.specs.declared.holds.Holds.{Holds}
 use Rattle.utils.proofs.Sums.{total-snoc, most-none, most-more, most-plus}
@@ -66,6 +66,30 @@ module _ {S : Type 0} (next : S → S) where
 
   pub sum-more : (f : S → Holds) (i : ℕ) (s₀ s : S) (h v : Holds) → h ≡ sumOf next f i s₀ → s ≡ stateAfter next i s₀ → v ≡ f s → plus h v ≡ sumOf next f (i + 1) s₀
   sum-more f i s₀ s h v p q e = rw (add-one, sum-suc f i s₀) (ap (λ (a : Holds). plus a v) p ∙ ap (plus (sumOf next f i s₀)) (e ∙ ap f q))
+
+-- ---- frames by their numbers
+after-count : (n : ℕ) → stateAfter suc n 0 ≡ n
+unfolding stateAfter
+after-count zero = refl
+after-count (suc n) = after-suc suc n 0 ∙ ap suc (after-count n)
+
+pub count-suc : (f : ℕ → Holds) (n : ℕ) → sumOf suc f (suc n) 0 ≡ plus (sumOf suc f n 0) (f n)
+count-suc f n = sum-suc suc f n 0 ∙ ap (λ (k : ℕ). plus (sumOf suc f n 0) (f k)) (after-count n)
+
+pub count-none : (f : ℕ → Holds) → none ≡ sumOf suc f 0 0
+unfolding eachOf total
+count-none f = refl
+
+pub count-more : (f : ℕ → Holds) (h v : Holds) (i : ℕ) → h ≡ sumOf suc f i 0 → v ≡ f i → plus h v ≡ sumOf suc f (i + 1) 0
+count-more f h v i e q = rw (add-one, count-suc, e, q)
+
+-- what frames hold, where each one's follows from its number
+pub count-frames : {S : Type 0} (next : S → S) (h : S → Holds) (s : S) (f : ℕ → Holds) (n : ℕ)
+    → ((i : ℕ) → i < n → h (stateAfter next i s) ≡ f i) → sumOf next h n s ≡ sumOf suc f n 0
+unfolding eachOf total
+count-frames next h s f zero e = refl
+count-frames next h s f (suc n) e =
+    sum-suc next h n s ∙ rw (count-frames next h s f n (λ i l. e i (omega arith)), e n (omega arith)) (sym (count-suc f n))
 
 -- ---- lists that a loop fills from the front
 module _ {A : Type 0} (f : ℕ → A) (d : A) where

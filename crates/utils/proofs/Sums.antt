@@ -1,9 +1,10 @@
 -- Holds are summed by one law, for frames, rows and calls: the total of two lists is the sum of their totals. Each law goes by the record's fields.
 use mathlib.Core.Path.{_≡_, sym, ap, _∙_}
+use mathlib.Core.Bool.{Bool, true, false}
 use mathlib.Core.List.{List, [], _∷_, _++_}
 use Prim.Native.Nat.{ℕ, _+_, _≤_}
 use native.Mathlib.Omega.{arith}
-use Rattle.utils.specs.Holds.{none, plus, total, AtMost}
+use Rattle.utils.specs.Holds.{none, ofFrame, plus, total, AtMost}
 use Rattle.utils.specs.declared.holds.Holds.{Holds}
 
 -- two records of the same counts
@@ -42,6 +43,10 @@ total-snoc l h = total-append l (h ∷ []) ∙ ap (plus (total l)) (plus-none h)
 
 pub most-none : (n : ℕ) → AtMost n none
 most-none n = record { held-most = omega arith }
+
+pub most-frame : (held : Bool) → AtMost 1 (ofFrame held)
+most-frame true = record { held-most = omega arith }
+most-frame false = most-none 1
 
 pub most-more : {m n : ℕ} {h : Holds} → m ≤ n → AtMost m h → AtMost n h
 most-more l p = record { held-most = omega (arith, p .held-most) }

@@ -1,11 +1,16 @@
 -- What was held, of a reading, a frame, a block, a row or a call: document 01's `held`, as a record that further counts can be added to.
 use Prim.Native.Nat.{ℕ, _+_, _≤_}
+use mathlib.Core.Bool.{Bool, cond}
 use mathlib.Core.List.{List, [], _∷_}
 use Rattle.utils.specs.declared.holds.Holds.{Holds}
 
 -- No hold.
 abbrev pub none : Holds
 none = record { held = 0 }
+
+-- "A frame with any hold adds 1 to `held`": what a frame counts that held something, or nothing.
+abbrev pub ofFrame : Bool → Holds
+ofFrame held = cond held (record { held = 1 }) none
 
 -- The holds of two together.
 unfoldable pub plus : Holds → Holds → Holds

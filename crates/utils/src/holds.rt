@@ -1,9 +1,9 @@
 // What was held: counts that go from a reading up to the answer of a call, and are summed on the way.
 ghost use mathlib.Core.Path.{_≡_};
-ghost use Rattle.utils.specs.Holds.{none, plus, AtMost, mostCount};
+ghost use Rattle.utils.specs.Holds.{none, ofFrame, plus, AtMost, mostCount};
 
 pub struct Holds {
-    // Frames of the wavetable voice with any hold, readings of the terrain voice that were held.
+    // Frames of the wavetable voice and of the plain oscillator with any hold, readings of the terrain voice that were held.
     pub held: usize,
 }
 
@@ -12,6 +12,13 @@ pub fn none() -> Holds
     ensures { λ r. ⌜ r ≡ none ⌝ }
 {
     Holds { held: 0 }
+}
+
+// What a frame counts that held something, or nothing.
+pub fn of_frame(held: bool) -> Holds
+    ensures { λ r. ⌜ r ≡ ofFrame held ⌝ }
+{
+    if held { Holds { held: 1 } } else { none() }
 }
 
 // The holds of two together.

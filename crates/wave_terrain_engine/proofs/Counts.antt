@@ -1,8 +1,7 @@
--- What oversamples hold, summed: one more, two for each frame, and at most one each.
+-- What oversamples hold, summed: two for each frame, and at most one each.
 use mathlib.Core.Path.{_≡_, refl, sym, ap, _∙_}
 use mathlib.Core.List.{List}
 use Prim.Native.Nat.{ℕ, zero, suc, _+_, _*_, _/_, _<_}
-use native.Mathlib.Numerals.{add-one}
 use native.Mathlib.Omega.{arith}
 use lib.IntN.{ℤ}
 use lib.ListN.{getD}
@@ -11,24 +10,9 @@ use Rattle.utils.specs.Holds.{none, plus, total, AtMost}
 use Rattle.utils.specs.Frames.{stateAfter, eachOf, sumOf}
 use Rattle.utils.specs.declared.holds.Holds.{Holds}
 use Rattle.utils.proofs.Sums.{plus-none, plus-assoc, plus-four, most-more}
-use Rattle.utils.proofs.Frames.{after-suc, sum-suc, sum-most}
+use Rattle.utils.proofs.Frames.{sum-suc, sum-most, count-suc}
 use Rattle.terrain.proofs.Layers.{terrain-held}
 use Rattle.wave_terrain_engine.specs.Stages.{stageHeight}
-
-after-count : (n : ℕ) → stateAfter suc n 0 ≡ n
-unfolding stateAfter
-after-count zero = refl
-after-count (suc n) = after-suc suc n 0 ∙ ap suc (after-count n)
-
-pub count-suc : (f : ℕ → Holds) (n : ℕ) → sumOf suc f (suc n) 0 ≡ plus (sumOf suc f n 0) (f n)
-count-suc f n = sum-suc suc f n 0 ∙ ap (λ (k : ℕ). plus (sumOf suc f n 0) (f k)) (after-count n)
-
-pub count-none : (f : ℕ → Holds) → none ≡ sumOf suc f 0 0
-unfolding eachOf total
-count-none f = refl
-
-pub count-more : (f : ℕ → Holds) (h v : Holds) (i : ℕ) → h ≡ sumOf suc f i 0 → v ≡ f i → plus h v ≡ sumOf suc f (i + 1) 0
-count-more f h v i e q = rw (add-one, count-suc, e, q)
 
 -- the oversamples of two layers, two for each frame
 module _ {S : Type 0} (next : S → S) (h : S → Holds) (s : S) (f g : ℕ → Holds) where

@@ -1,6 +1,6 @@
 -- The walk goes on: the positions, what the frames held and the five lists are those of one more frame. And the parts of positions keep within their tops.
 use mathlib.Core.Path.{_≡_, refl, ap, _∙_, subst}
-use mathlib.Core.Bool.{Bool, true, false, cond, _||_}
+use mathlib.Core.Bool.{_||_}
 use mathlib.Core.List.{List}
 use Prim.Native.Nat.{ℕ, _+_, _≤_, _<_}
 use native.Mathlib.Omega.{arith}
@@ -10,11 +10,12 @@ use Rattle.words.proofs.Parts.{part-most}
 use Rattle.utils.specs.Holds.{none, plus, total, AtMost}
 use Rattle.utils.specs.Frames.{stateAfter, eachOf, sumOf, Filled}
 use Rattle.utils.specs.declared.holds.Holds.{Holds}
-use Rattle.utils.proofs.Sums.{most-none, most-plus}
+use Rattle.utils.proofs.Sums.{most-none, most-frame, most-plus}
 use Rattle.utils.proofs.Frames.{filled-none, filled-more, after-more, sum-more}
+use Rattle.oscillator.specs.Bank.{phaseTop}
 use Rattle.wavetable_engine.specs.declared.frames.Positions.{Positions}
 use Rattle.wavetable_engine.specs.declared.frames.Parts.{Parts}
-use Rattle.wavetable_engine.specs.Wavetable.{xTop, yTop, zTop, phaseTop, moved, partsOf, frameHold, holdsOf}
+use Rattle.wavetable_engine.specs.Wavetable.{xTop, yTop, zTop, moved, partsOf, holdsOf}
 use Rattle.wavetable_engine.specs.Stages.{keyOf, partsAt, PartsFit, WalkedBy}
 
 pub parts-fit : (p : Parts) (s : Positions) → p ≡ partsOf s → PartsFit p
@@ -27,13 +28,9 @@ parts-fit p s e =
       phase-fits = part-most (p .phase) phaseTop _ (ap (λ (q : Parts). q .phase) e);
     }
 
-one-most : (b : Bool) → AtMost 1 (cond b frameHold none)
-one-most true = record { held-most = omega arith }
-one-most false = most-none 1
-
 pub frame-most : (p : Parts) → AtMost 1 (holdsOf p)
 unfolding holdsOf
-frame-most p = one-most (p .x .held || p .y .held || p .z .held || p .phase .held)
+frame-most p = most-frame (p .x .held || p .y .held || p .z .held || p .phase .held)
 
 -- what the frame that begins with s holds
 abbrev pub holdsAt : Float → Positions → Holds

@@ -8,12 +8,13 @@ use Rattle.words.specs.Binary32.{_⊗_}
 use Rattle.utils.specs.Interpolator.{stepped}
 use Rattle.utils.specs.Frames.{stateAfter, sumOf, Filled}
 use Rattle.utils.specs.declared.parameter_interpolator.ParameterInterpolator.{ParameterInterpolator}
-use Rattle.oscillator.specs.Readings.{differentiated}
+use Rattle.oscillator.specs.Bank.{phaseTop}
+use Rattle.oscillator.specs.Readings.{cutoffOf, differentiated}
 use Rattle.oscillator.specs.declared.wavetable_oscillator.Differentiator.{Differentiator}
 use Rattle.wavetable_engine.specs.declared.frames.Positions.{Positions}
 use Rattle.wavetable_engine.specs.declared.frames.Parts.{Parts}
 use Rattle.wavetable_engine.specs.declared.frames.Walked.{Walked}
-use Rattle.wavetable_engine.specs.Wavetable.{phaseTop, xTop, yTop, zTop, moved, partsOf, holdsOf, cutoffOf, gainOf}
+use Rattle.wavetable_engine.specs.Wavetable.{xTop, yTop, zTop, moved, partsOf, holdsOf, gainOf}
 
 -- ---- the walk: where each frame reads
 

@@ -1,21 +1,21 @@
 -- Document 01, "Wavetable voice": `wavetable_engine.rs`, in its order.
 use Prim.Native.Nat.{ℕ}
-use mathlib.Core.Bool.{cond, _||_}
+use mathlib.Core.Bool.{_||_}
 use mathlib.Core.List.{List}
 use lib.IntN.{ℤ}
-use lib.Ieee.{Float, binary32, le, neg, toBits}
+use lib.Ieee.{Float, binary32, neg, toBits}
 use Rattle.words.specs.Binary32.{_⊕_, _⊖_, _⊗_, _⊘_, decimal}
 use Rattle.words.specs.Parts.{wholeFloat, wholeI32Float, partOf}
-use Rattle.utils.specs.Utils.{clampOf, minOf, onePole}
+use Rattle.utils.specs.Utils.{clampOf, onePole}
 use Rattle.utils.specs.Units.{noteToFrequency}
 use Rattle.utils.specs.Interpolator.{interpolator, stepped}
-use Rattle.utils.specs.Holds.{none}
+use Rattle.utils.specs.Holds.{ofFrame}
 use Rattle.utils.specs.Frames.{stateAfter, eachOf, sumOf}
 use Rattle.utils.specs.Rendered.{Rendered}
 use Rattle.utils.specs.declared.holds.Holds.{Holds}
 use Rattle.utils.specs.declared.engine.EngineParameters.{EngineParameters}
-use Rattle.oscillator.specs.Bank.{tableSizeF}
-use Rattle.oscillator.specs.Readings.{differentiated}
+use Rattle.oscillator.specs.Bank.{tableSizeF, phaseTop}
+use Rattle.oscillator.specs.Readings.{advanced, cutoffOf, differentiated}
 use Rattle.oscillator.specs.declared.wavetable_oscillator.Differentiator.{Differentiator}
 use Rattle.waves.specs.Waves.{cornersAt, foldX, foldY, foldZ}
 use Rattle.wavetable_engine.specs.declared.WavetableEngine.{WavetableEngine}
@@ -62,10 +62,6 @@ setUp high low size parameters s =
 
 -- ---- a frame
 
--- The phase one frame on.
-abbrev pub advanced : Float → Float → Float
-advanced phase f0 = cond (le (decimal 1 0) (phase ⊕ f0)) (phase ⊕ f0 ⊖ decimal 1 0) (phase ⊕ f0)
-
 -- The parameters, the smoothed x, y and z, and the phase one frame on.
 unfoldable pub moved : Float → Positions → Positions
 moved lp s =
@@ -80,10 +76,7 @@ moved lp s =
       «f0_modulation» = stepped (s .«f0_modulation»);
     }
 
--- "tops: phase 127, x 7, y 7, z 6".
-abbrev pub phaseTop : ℕ
-phaseTop = 127
-
+-- "tops: phase 127, x 7, y 7, z 6"; phaseTop is the bank's.
 abbrev pub xTop : ℕ
 xTop = 7
 
@@ -104,11 +97,8 @@ partsOf s =
     }
 
 -- "A frame with any hold adds 1 to `held`."
-abbrev pub frameHold : Holds
-frameHold = record { held = 1 }
-
 unfoldable pub holdsOf : Parts → Holds
-holdsOf p = cond (p .x .held || p .y .held || p .z .held || p .phase .held) frameHold none
+holdsOf p = ofFrame (p .x .held || p .y .held || p .z .held || p .phase .held)
 
 -- What a frame reads: its corners, folded by the fractions of x, y and z.
 unfoldable pub reading : List ℤ → Parts → Float
@@ -118,9 +108,6 @@ reading bank p =
 
 unfoldable pub gainOf : Float → Float
 gainOf f0 = (decimal 1 0 ⊘ (f0 ⊗ decimal 131072 0)) ⊗ (decimal 95 2 ⊖ f0)
-
-unfoldable pub cutoffOf : Float → Float
-cutoffOf f0 = minOf (tableSizeF ⊗ f0) (decimal 1 0)
 
 -- The aux sample: through the whole part to i32.
 unfoldable pub lofi : Float → Float

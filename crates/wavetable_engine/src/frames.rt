@@ -5,10 +5,12 @@ ghost use lib.ListN.{length, getD};
 ghost use lib.Ieee.{nan, binary32, toBits};
 ghost use Rattle.utils.specs.Frames.{Filled};
 ghost use Rattle.utils.specs.Rendered.{mostFrames};
-ghost use Rattle.wavetable_engine.specs.Wavetable.{advanced, moved, partsOf, holdsOf, gainOf, cutoffOf, lofi};
+ghost use Rattle.wavetable_engine.specs.Wavetable.{moved, partsOf, holdsOf, gainOf, lofi};
 ghost use Rattle.wavetable_engine.specs.Stages.{PartsFit, keyOf, WalkedBy, sampleOf, differentiating};
 use oscillator::bank::TABLE_SIZE_F;
 use oscillator::wavetable_oscillator::Differentiator;
+use oscillator::wavetable_oscillator::advance;
+use oscillator::wavetable_oscillator::cutoff;
 use utils::engine::RUN_LENGTH;
 use utils::holds::Holds;
 use utils::parameter_interpolator::ParameterInterpolator;
@@ -38,14 +40,6 @@ pub struct Parts {
 pub struct Walked {
     pub end: Positions,
     pub holds: Holds,
-}
-
-// The phase one frame on.
-fn advance(phase: f32, f0: f32) -> f32
-    ensures { λ r. ⌜ r ≡ advanced phase f0 ⌝ }
-{
-    let next = phase + f0;
-    if next >= 1.0 { next - 1.0 } else { next }
 }
 
 // The positions one frame on.
@@ -84,11 +78,7 @@ fn parts_of(s: Positions) -> Parts
 fn held(p: Parts) -> Holds
     ensures { λ r. ⌜ r ≡ holdsOf p ⌝ }
 {
-    if p.x.held || p.y.held || p.z.held || p.phase.held {
-        Holds { held: 1 }
-    } else {
-        Holds { held: 0 }
-    }
+    utils::holds::of_frame(p.x.held | p.y.held | p.z.held | p.phase.held)
 }
 
 // The four whole parts in one number.
@@ -136,13 +126,6 @@ fn gain(f0: f32) -> f32
     ensures { λ r. ⌜ r ≡ gainOf f0 ⌝ }
 {
     (1.0 / (f0 * 131072.0)) * (0.95 - f0)
-}
-
-// The differentiator's coefficient.
-fn cutoff(f0: f32) -> f32
-    ensures { λ r. ⌜ r ≡ cutoffOf f0 ⌝ }
-{
-    utils::min(TABLE_SIZE_F * f0, 1.0)
 }
 
 // The readings of `size` frames made samples.

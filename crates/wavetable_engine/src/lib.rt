@@ -74,7 +74,7 @@ fn quantise(x: f32, quantization: f32) -> f32
 
 impl WavetableEngine {
     // The highest whole parts of the positions.
-    pub const PHASE_TOP: usize = 127;
+    pub const PHASE_TOP: usize = oscillator::bank::PHASE_TOP;
 
     pub const X_TOP: usize = 7;
 

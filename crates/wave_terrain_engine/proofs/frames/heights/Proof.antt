@@ -9,7 +9,8 @@ use Rattle.utils.proofs.Sums.{most-more, most-plus}
 use Rattle.oscillator.proofs.Runs.{Filling, filling-none, filling-more}
 use Rattle.terrain.specs.declared.Reading.{Reading}
 use Rattle.wave_terrain_engine.specs.Stages.{stageHeight}
-use Rattle.wave_terrain_engine.proofs.Counts.{count-none, count-more, stage-held}
+use Rattle.utils.proofs.Frames.{count-none, count-more}
+use Rattle.wave_terrain_engine.proofs.Counts.{stage-held}
 use Rattle.terrain.proofs.Layers.{top-most, reading-held}
 use Rattle.wave_terrain_engine.proofs.frames.heights.Statement.{statement}
 use Rattle.wave_terrain_engine.proofs.frames.heights.Tie as tie

@@ -1,11 +1,11 @@
--- `wavetable_engine::frames::cutoff` meets its contract.
+-- `oscillator::wavetable_oscillator::cutoff` meets its contract.
 use lib.Ieee.{ofBits}
 use borrow.Author.Needs.{needs}
 use Rattle.oscillator.proofs.Sizes.{period-float}
-use Rattle.wavetable_engine.specs.Wavetable.{cutoffOf}
+use Rattle.oscillator.specs.Readings.{cutoffOf}
 use Rattle.words.specs.Binary32.{decimal}
-use Rattle.wavetable_engine.proofs.frames.cutoff.Statement.{statement}
-use Rattle.wavetable_engine.proofs.frames.cutoff.Tie as tie
+use Rattle.oscillator.proofs.wavetable_oscillator.cutoff.Statement.{statement}
+use Rattle.oscillator.proofs.wavetable_oscillator.cutoff.Tie as tie
 
 min-requires : tie.Need-min-requires
 min-requires c κs = search needs

@@ -1,8 +1,8 @@
--- `wavetable_engine::frames::advance` meets its contract.
+-- `oscillator::wavetable_oscillator::advance` meets its contract.
 use lib.Ieee.{ofBits}
 use Rattle.words.specs.Binary32.{decimal}
-use Rattle.wavetable_engine.proofs.frames.advance.Statement.{statement}
-use Rattle.wavetable_engine.proofs.frames.advance.Tie as tie
+use Rattle.oscillator.proofs.wavetable_oscillator.advance.Statement.{statement}
+use Rattle.oscillator.proofs.wavetable_oscillator.advance.Tie as tie
 
 returns : tie.Need-returns
 unfolding ofBits decimal

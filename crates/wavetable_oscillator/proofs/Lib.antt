@@ -1,0 +1,3 @@
+-- What the proofs of this crate share.
+mod Going
+mod Composed
