@@ -113,7 +113,7 @@ stateOf voice.Wavetable kept = Wavetable (wavetableOf kept)
 stateOf voice.Terrain kept = Terrain (terrainOf kept)
 
 -- A voice's own block, as a block of any state.
-abbrev among : {S : Type 0} → (S → State) → Rendered S → Rendered State
+abbrev pub among : {S : Type 0} → (S → State) → Rendered S → Rendered State
 among of b = record { out = b .out; aux = b .aux; state = of (b .state); holds = b .holds }
 
 -- A block, made from a state and a row's parameters by the voice that the state is of.

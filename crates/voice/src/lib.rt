@@ -1,15 +1,9 @@
-// The state of a voice, its kept words, and the block of a row, for either voice.
+// The state of a voice and its kept words, for either voice.
 ghost use mathlib.Core.Path.{_≡_};
 ghost use lib.ListN.{length};
-ghost use Rattle.utils.specs.Rendered.{Places, Renders};
-ghost use Rattle.voice.specs.Voice.{voiceOf, keptCount, freshState, keptWords, wavetableOf, terrainOf, stateOf, rendered, Lent, Tables};
+ghost use Rattle.voice.specs.Voice.{voiceOf, keptCount, freshState, keptWords, wavetableOf, terrainOf, stateOf};
 use oscillator::sine_oscillator::FastSineOscillator;
 use oscillator::wavetable_oscillator::Differentiator;
-use utils::engine::CORNERS_LENGTH;
-use utils::engine::EngineParameters;
-use utils::engine::MOST_FRAMES;
-use utils::engine::RUN_LENGTH;
-use utils::holds::Holds;
 use wave_terrain_engine::WaveTerrainEngine;
 use wavetable_engine::WavetableEngine;
 
@@ -31,12 +25,6 @@ pub enum Voice {
 pub enum State {
     Wavetable(WavetableEngine),
     Terrain(WaveTerrainEngine),
-}
-
-// The state after a block, and what was held.
-pub struct Block {
-    pub state: State,
-    pub holds: Holds,
 }
 
 // Which voice an instrument plays. A number that is no instrument's is refused before a voice is asked for.
@@ -162,79 +150,5 @@ pub fn state_of(voice: Voice, kept: &[u32]) -> State
     match voice {
         Voice::Wavetable => State::Wavetable(wavetable_of(kept)),
         Voice::Terrain => State::Terrain(terrain_of(kept)),
-    }
-}
-
-// A row's block: one sample into each place of `out` and of `aux`. Tables and the arrays to work in are lent.
-pub fn render(
-    state: State,
-    parameters: EngineParameters,
-    bank: &[i16],
-    map: &[u8],
-    sine: &[f32; 641],
-    high: &[f32; 256],
-    low: &[f32; 256],
-    keys: &mut [u32; MOST_FRAMES],
-    run_1: &mut [f32; RUN_LENGTH],
-    run_2: &mut [f32; RUN_LENGTH],
-    run_3: &mut [f32; RUN_LENGTH],
-    run_4: &mut [f32; RUN_LENGTH],
-    corners: &mut [f32; CORNERS_LENGTH],
-    out: &mut [u32],
-    aux: &mut [u32],
-) -> Block
-    requires { ⌜ Lent (now bank) (now map) ⌝ }
-    requires { ⌜ Tables (now sine) (now high) (now low) ⌝ }
-    requires { ⌜ Places (now out) (now aux) ⌝ }
-    ensures { λ r. ⌜ Renders (rendered (now (bank .entry)) (now (map .entry)) (length (now (out .entry))) parameters state)
-        (length (now (out .entry))) (r .state) (r .holds) (now (out .exit)) (now (aux .exit)) ⌝ }
-{
-    match state {
-        State::Wavetable(w) => {
-            let b = w.render(
-                parameters,
-                bank,
-                high,
-                low,
-                keys,
-                run_1,
-                run_2,
-                run_3,
-                run_4,
-                corners,
-                out,
-                aux,
-            );
-            let s = b.state;
-            let holds = b.holds;
-            Block {
-                state: State::Wavetable(s),
-                holds,
-            }
-        }
-        State::Terrain(t) => {
-            let b = t.render(
-                parameters,
-                bank,
-                map,
-                sine,
-                high,
-                low,
-                keys,
-                run_1,
-                run_2,
-                run_3,
-                run_4,
-                corners,
-                out,
-                aux,
-            );
-            let s = b.state;
-            let holds = b.holds;
-            Block {
-                state: State::Terrain(s),
-                holds,
-            }
-        }
     }
 }

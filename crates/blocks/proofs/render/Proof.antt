@@ -1,8 +1,10 @@
--- `voice::render` meets its contract: the voice's own block is the block of the state that holds it.
+-- `blocks::render` meets its contract: the voice's own block, over the tables as they are lent, is the block of the state that holds it.
 use borrow.Author.Needs.{needs}
-use Rattle.voice.proofs.Blocks.{wavetable-renders, terrain-renders}
-use Rattle.voice.proofs.render.Statement.{statement}
-use Rattle.voice.proofs.render.Tie as tie
+use Rattle.voice.specs.declared.State.the-variants.{Wavetable, Terrain}
+use Rattle.voice.specs.Voice.{rendered}
+use Rattle.blocks.proofs.Blocks.{renders-among}
+use Rattle.blocks.proofs.render.Statement.{statement}
+use Rattle.blocks.proofs.render.Tie as tie
 
 enum-known-state : tie.Need-enum-known-state
 enum-known-state c = search needs
@@ -23,11 +25,13 @@ same-length-2 : tie.Need-same-length-2
 same-length-2 c = search needs
 
 returns : tie.Need-returns
+unfolding rendered
 returns c =
     let at-render = c .before .before .before .before .before .before in
     let at-state = at-render .before .before .before .before .before .before .before .before .before .before in
     let entry = at-state .before .before .before .before .before in
-    wavetable-renders _ _ _ _ _ (entry .pre .1 .0) _ _ _ _ _ _ _ _ (at-state .state .given .1) (at-render .render .ensures)
+    let tables = entry .pre .1 .0 in
+    rw (at-state .state .given .1) (renders-among Wavetable _ _ _ _ _ _ (rw (tables .high-is, tables .low-is) at (at-render .render .ensures)))
 
 same-length-3 : tie.Need-same-length-3
 same-length-3 c = search needs
@@ -36,11 +40,14 @@ same-length-4 : tie.Need-same-length-4
 same-length-4 c = search needs
 
 returns-2 : tie.Need-returns-2
+unfolding rendered
 returns-2 c =
     let at-render = c .before .before .before .before .before .before in
     let at-state = at-render .before .before .before .before .before .before .before .before .before .before in
     let entry = at-state .before .before .before .before .before in
-    terrain-renders _ _ _ _ _ (entry .pre .1 .0) _ _ _ _ _ _ _ _ (at-state .state2 .given .1) (at-render .render2 .ensures)
+    let tables = entry .pre .1 .0 in
+    rw (at-state .state2 .given .1)
+    (renders-among Terrain _ _ _ _ _ _ (rw (tables .sine-is, tables .high-is, tables .low-is) at (at-render .render2 .ensures)))
 
 pub render-spec : {M : Type 1} → statement M
 render-spec =
