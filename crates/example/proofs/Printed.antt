@@ -28,7 +28,7 @@ use Rattle.reader.specs.Reading.{outcome, testLines, testText, textRows, countN
 use Rattle.rows.specs.Rows.{parametersOf, startOf, rowFrom, rowBy, beforeRow, both, stopsOf, runOf, Setup, Take, Run, idle}
 use Rattle.refusals.specs.Refusals.{rowCount, settingsNumber, lengthsNumber, lentNumber, scoreRefusal, refusalOf, renderRefusal, editRefusal}
 use Rattle.take.specs.Take.{Outcome, ran, renderOf, retakeOf, editOf}
-use Rattle.take.specs.Retakes.{Edit, edited}
+use Rattle.retakes.specs.Retakes.{Edit, edited}
 use Rattle.inputs.specs.Inputs.{zeros, textOf, scoreText, editsText, inputsOf}
 use Rattle.outputs.specs.Lines.{heading, countsLine, editLine}
 use Rattle.retake_lib.specs.Program.{editFrom, editsFrom, setupWith, blank, editLines, played, outputOf, program}

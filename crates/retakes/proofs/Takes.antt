@@ -11,7 +11,7 @@ use Rattle.voice.specs.Voice.{keptCount}
 use Rattle.voice.proofs.Laws as voice
 use Rattle.rows.specs.Rows.{Setup, Take, rowFrom, rowBy, putWords}
 use Rattle.runs.proofs.Turns.{SameLengths}
-use Rattle.take.specs.Retakes.{wordsAt, Elsewhere}
+use Rattle.retakes.specs.Retakes.{wordsAt, Elsewhere}
 
 -- The buffers hold n rows.
 pub record Roomy (s : Setup) (n : ℕ) (rows : List ℕ) (t : Take) : Type 0 where

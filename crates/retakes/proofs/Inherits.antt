@@ -16,13 +16,13 @@ use Rattle.score.specs.Limits.{rowWithin, firstBad, badRefusal, limitRefusal}
 use Rattle.score.specs.Numbers.{refusal, accepted, limitNumber}
 use Rattle.rows.specs.Rows.{Setup, Take, beforeRow, Run}
 use Rattle.refusals.specs.Refusals.{rowCount}
 use Rattle.take.specs.Take.{Outcome, renderOf}
-use Rattle.take.specs.Retakes.{Edit, withRow, edited, after, wordsAt, Inherits, Inherited}
+use Rattle.retakes.specs.Retakes.{Edit, withRow, edited, after, wordsAt, Inherits, Inherited}
 use Rattle.take.proofs.Calls.{render-limits, render-run, edit-refused, edit-score}
-use Rattle.take.proofs.Takes.{words-elsewhere}
-use Rattle.take.proofs.Runs.{Ran}
-use Rattle.take.proofs.Editing.{edit-unchanged, edited-run, edit-ran, by-cases, edit-count}
-use Rattle.take.proofs.Retakes.{accepted-is, all, render-ran, rendered-rows}
+use Rattle.retakes.proofs.Takes.{words-elsewhere}
+use Rattle.retakes.proofs.Runs.{Ran}
+use Rattle.retakes.proofs.Editing.{edit-unchanged, edited-run, edit-ran, by-cases, edit-count}
+use Rattle.retakes.proofs.Retakes.{accepted-is, all, render-ran, rendered-rows}
 
 -- ---- A score that 9 does not refuse.
 

@@ -12,8 +12,8 @@ use Rattle.voice.specs.Voice.{keptCount, voiceOf, stateOf}
 use Rattle.voice.proofs.Laws.{fresh-back}
 use Rattle.score.specs.Rows.{rowAt}
 use Rattle.rows.specs.Rows.{Setup, Take, lent, freshStart, keptAt, beforeRow, wordsBefore, Row, rowFrom, rowBy, rowIn}
-use Rattle.take.specs.Retakes.{freshFrom, fresh, joined, takeOf, noRow, beforeIn, wordsAt, madeFrom}
-use Rattle.take.proofs.Runs.{Made}
+use Rattle.retakes.specs.Retakes.{freshFrom, fresh, joined, takeOf, noRow, beforeIn, wordsAt, madeFrom}
+use Rattle.retakes.proofs.Runs.{Made}
 
 module _ (s : Setup) (rows : List ℕ) where
   pub fresh-long : (l i : ℕ) (st : State) → length (freshFrom s rows l i st) ≡ l

@@ -1,5 +1,5 @@
 -- Demand 3: what is promised of an accepted whole rendering and of every list of row edits after it; and before it, what an edit does to any
--- take. The calls are `renderOf` and `editOf` of `Take`, to which the code is proved equal. Below: fresh rendering, lists of edits, what one
+-- take. The calls are `renderOf` and `editOf` of take · Take, to which the code is proved equal. Below: fresh rendering, lists of edits, what one
 -- edit does, and the claims: `Retakes` of any take, `Inherited` of what every row has, `Demand3`.
 use Prim.Native.Nat.{ℕ, zero, suc, _+_, _-_, _≤_, _<_}
 use mathlib.Core.List.{List, [], _∷_, _++_, map}

@@ -18,10 +18,10 @@ use Rattle.utils.specs.declared.holds.Holds.{Holds}
 use Rattle.score.specs.declared.refusal.Refusal.{Refusal}
 use Rattle.score.specs.Rows.{rowWords, wordFor, restart, rowAt}
 use Rattle.rows.specs.Rows.{Setup, Take, wordsBefore, Row, startOf, rowFrom, rowBy, Run, runOf}
 use Rattle.take.specs.declared.Answer.the-variants.{Done}
 use Rattle.refusals.specs.Refusals.{rowCount, lentNumber, scoreRefusal, refusalOf, renderRefusal, editRefusal}
 use Rattle.take.specs.Take.{resultOf, Outcome, refusedBy, ran, renderOf}
-use Rattle.take.specs.Retakes.{
+use Rattle.retakes.specs.Retakes.{
   fresh,
   takeOf,
   holdsOf,
@@ -44,11 +44,11 @@ use Rattle.take.specs.Retakes.{
 }
 use Rattle.refusals.proofs.Accepted.{usable}
 use Rattle.runs.proofs.Turns.{SameLengths}
-use Rattle.take.proofs.Takes.{words-elsewhere}
-use Rattle.take.proofs.Runs.{Made, before-same, Ran, run-ran}
-use Rattle.take.proofs.FreshRows.{fresh-long, before-fresh, rows-fresh, all-fresh}
+use Rattle.retakes.proofs.Takes.{words-elsewhere}
+use Rattle.retakes.proofs.Runs.{Made, before-same, Ran, run-ran}
+use Rattle.retakes.proofs.FreshRows.{fresh-long, before-fresh, rows-fresh, all-fresh}
 use Rattle.take.proofs.Calls.{render-lent, render-run, edit-refused}
-use Rattle.take.proofs.Editing.{edit-unchanged, edited-run, edit-ran, rows-long, score-elsewhere, by-cases, edit-count, retakes}
+use Rattle.retakes.proofs.Editing.{edit-unchanged, edited-run, edit-ran, rows-long, score-elsewhere, by-cases, edit-count, retakes}
 
 -- ---- Laws that the steps cite.
 

@@ -15,9 +15,9 @@ use Rattle.utils.specs.declared.holds.Holds.{Holds}
 use Rattle.score.specs.Rows.{rowAt}
 use Rattle.rows.specs.declared.Report.{Report}
 use Rattle.rows.specs.Rows.{Setup, Take, keptAt, beforeRow, wordsBefore, Row, rowBy, rowIn, putWords, both, Run, idle, after, stopsOf, runOf}
-use Rattle.take.specs.Retakes.{wordsAt, Elsewhere, holdsOf, madeFrom}
+use Rattle.retakes.specs.Retakes.{wordsAt, Elsewhere, holdsOf, madeFrom}
 use Rattle.runs.proofs.Turns.{SameLengths}
-use Rattle.take.proofs.Takes.{Roomy, lengths-then, roomy-still, row-sized, put-lengths, put-elsewhere, put-words, elsewhere-then, words-elsewhere}
+use Rattle.retakes.proofs.Takes.{Roomy, lengths-then, roomy-still, row-sized, put-lengths, put-elsewhere, put-words, elsewhere-then, words-elsewhere}
 
 module _ (s : Setup) (rows : List ℕ) where
   -- Row i stands as made from the words that the take keeps before it.

@@ -16,13 +16,13 @@ use Rattle.utils.specs.declared.holds.Holds.{Holds}
 use Rattle.score.specs.Rows.{rowWords, wordFor, restart, rowAt, restarts}
 use Rattle.score.specs.declared.refusal.Refusal.{Refusal}
 use Rattle.rows.specs.Rows.{Setup, Take, wordsBefore, Run, idle, stopsOf, runOf}
 use Rattle.take.specs.declared.Answer.the-variants.{Done}
 use Rattle.refusals.specs.Refusals.{rowCount, editRefusal}
 use Rattle.take.specs.Take.{resultOf, Outcome, ran}
-use Rattle.take.specs.Retakes.{Edit, withRow, edited, Stop, First, Writes, madeFrom, holdsOf, Retaken, Retakes}
+use Rattle.retakes.specs.Retakes.{Edit, withRow, edited, Stop, First, Writes, madeFrom, holdsOf, Retaken, Retakes}
 use Rattle.take.proofs.Calls.{edit-refused, edit-score, edit-retakable, edit-retake, retake-same, retake-run, retake-room, retake-holding}
-use Rattle.take.proofs.Takes.{Roomy}
-use Rattle.take.proofs.Runs.{Ran, run-ran}
+use Rattle.retakes.proofs.Takes.{Roomy}
+use Rattle.retakes.proofs.Runs.{Ran, run-ran}
 
 -- ---- The stop's reasons.
 
