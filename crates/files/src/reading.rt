@@ -2,7 +2,7 @@
 ghost use Prim.Native.Nat.{_≤_};
 ghost use lib.ListN.{length};
 ghost use Rattle.io.specs.Counts.{Counts};
-ghost use Rattle.folder.specs.Chunks.{ChunkEnd, CameIn};
+ghost use Rattle.files.specs.Chunks.{ChunkEnd, CameIn};
 
 // Files are read so many bytes at a time: 4 KiB.
 const CHUNK: usize = 4096;

@@ -1,10 +1,7 @@
 // Writing a file whole or not at all: a new file beside it is written first, and then takes its place. Where that fails, a line on
 // standard error says so, the new file is removed, and the old one is as it was.
 ghost use Rattle.io.specs.Counts.{Counts};
-ghost use Rattle.outputs.specs.Files.{Within};
 use formats::put_text;
-use outputs::files::Place;
-use retake_lib::FILE_ROOM;
 
 // The most bytes of a file's name, and of the name of the file beside it.
 const MOST_NAME: usize = 60;
@@ -69,7 +66,7 @@ pub fn write_file(name: &[u8], bytes: &[u8]) {
 }
 
 // Writes two files; neither takes its place before both are written.
-fn write_two(first: &[u8], first_bytes: &[u8], second: &[u8], second_bytes: &[u8]) {
+pub fn write_two(first: &[u8], first_bytes: &[u8], second: &[u8], second_bytes: &[u8]) {
     let mut beside = [0u8; MOST_BESIDE];
     let mut further = [0u8; MOST_BESIDE];
     let end = put_beside(first, &mut beside);
@@ -83,29 +80,4 @@ fn write_two(first: &[u8], first_bytes: &[u8], second: &[u8], second_bytes: &[u8
     }
     replace(first, &beside[..end]);
     replace(second, &further[..last]);
-}
-
-// Writes two files that stand in lent bytes, each behind its name.
-fn write_placed(first: &[u8], place: Place, second: &[u8], other: Place)
-    requires { ⌜ Within place (now first) ⌝ }
-    requires { ⌜ Within other (now second) ⌝ }
-{
-    let start = place.name;
-    let end = place.end;
-    let from = other.name;
-    let to = other.end;
-    write_two(
-        &first[..start],
-        &first[start..end],
-        &second[..from],
-        &second[from..to],
-    );
-}
-
-// Writes two files that are handed over.
-pub fn write_both(first: &[u8; FILE_ROOM], place: Place, second: &[u8; FILE_ROOM], other: Place)
-    requires { ⌜ Within place (now first) ⌝ }
-    requires { ⌜ Within other (now second) ⌝ }
-{
-    write_placed(first, place, second, other);
 }

@@ -1,12 +1,12 @@
--- `folder::reading::read_all` meets its contract: what came in so far lies within the bytes.
+-- `files::reading::read_all` meets its contract: what came in so far lies within the bytes.
 use lib.ListN.{length}
 use borrow.Author.Needs.{needs}
 use native.Mathlib.Omega.{arith}
 use Prim.Native.Nat.{_≤_, _-_}
 use mathlib.Core.Path.{_≡_}
 use Rattle.io.proofs.Counting.{counts}
-use Rattle.folder.proofs.reading.read_all.Statement.{statement}
-use Rattle.folder.proofs.reading.read_all.Tie as tie
+use Rattle.files.proofs.reading.read_all.Statement.{statement}
+use Rattle.files.proofs.reading.read_all.Tie as tie
 
 abbrev Inv-loop : tie.InvT-loop
 Inv-loop fd bytes₀ at₀ bytes at = (length bytes ≡ length bytes₀) × (at ≤ length bytes)

@@ -1,9 +1,9 @@
--- `folder::writing::put_beside` meets its contract: both texts lie within the bytes.
+-- `files::writing::put_beside` meets its contract: both texts lie within the bytes.
 use native.Mathlib.Omega.{arith}
 use borrow.Author.Needs.{needs}
 use Rattle.io.proofs.Counting.{counts}
-use Rattle.folder.proofs.writing.put_beside.Statement.{statement}
-use Rattle.folder.proofs.writing.put_beside.Tie as tie
+use Rattle.files.proofs.writing.put_beside.Statement.{statement}
+use Rattle.files.proofs.writing.put_beside.Tie as tie
 
 returns : tie.Need-returns
 returns c = search needs
