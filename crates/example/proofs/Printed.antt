@@ -22,12 +22,13 @@ use Rattle.score.specs.Limits.{limit, floatTo, rowWithin, firstBad, badRefusal,
 use Rattle.score.specs.Rows.{rowAt, putRow}
 use Rattle.reader.specs.declared.ReadAnswer.the-variants.{Read}
 use Rattle.text.specs.Text.{split, linesOf, columnOf, isDigit, digitOf, eachDigit, isWord, followedBy, wordOf, eachWord}
-use Rattle.reader.specs.Sources.{sourcesOf, eachReadable, columnCount, eachOnce, holdsNames, holdsWords, rowOf, rowsOf}
-use Rattle.reader.specs.Reading.{outcome, lineNumber, testLines, testText, textRows, countNumber, settle, readText, scoreTable, readOf, editTable, readEditsOf}
+use Rattle.names.specs.Sources.{sourcesOf, eachReadable, columnCount, eachOnce, holdsNames}
+use Rattle.values.specs.Lines.{holdsWords, rowOf, rowsOf, lineNumber}
+use Rattle.reader.specs.Reading.{outcome, testLines, testText, textRows, countNumber, settle, readText, scoreTable, readOf, editTable, readEditsOf}
 use Rattle.rows.specs.Rows.{parametersOf, startOf, rowFrom, rowBy, beforeRow, both, stopsOf, runOf, Setup, Take, Run, idle}
 use Rattle.refusals.specs.Refusals.{rowCount, settingsNumber, lengthsNumber, lentNumber, scoreRefusal, refusalOf, renderRefusal, editRefusal}
 use Rattle.take.specs.Take.{Outcome, ran, renderOf, retakeOf, editOf}
-use Rattle.take.specs.Retakes.{Edit, edited}
+use Rattle.retakes.specs.Retakes.{Edit, edited}
 use Rattle.inputs.specs.Inputs.{zeros, textOf, scoreText, editsText, inputsOf}
 use Rattle.outputs.specs.Lines.{heading, countsLine, editLine}
 use Rattle.retake_lib.specs.Program.{editFrom, editsFrom, setupWith, blank, editLines, played, outputOf, program}

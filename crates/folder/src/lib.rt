@@ -1,16 +1,40 @@
 // The program in a folder: it reads the three files there, prints, and writes the two files that it is handed. What is printed and
 // written is `retake_lib::run_read` of the bytes that were read; here they are only moved.
-pub mod reading;
-pub mod writing;
-
+ghost use Rattle.outputs.specs.Files.{Within};
+use files::reading::read_file;
+use files::writing::write_two;
 use libc::STDOUT_FILENO;
 use outputs::files::Files;
-use reading::read_file;
+use outputs::files::Place;
 use retake_lib::BANK_ROOM;
 use retake_lib::FILE_ROOM;
 use retake_lib::PRINTED_ROOM;
 use retake_lib::TEXT_ROOM;
-use writing::write_both;
+
+// Writes two files that stand in lent bytes, each behind its name.
+fn write_placed(first: &[u8], place: Place, second: &[u8], other: Place)
+    requires { ⌜ Within place (now first) ⌝ }
+    requires { ⌜ Within other (now second) ⌝ }
+{
+    let start = place.name;
+    let end = place.end;
+    let from = other.name;
+    let to = other.end;
+    write_two(
+        &first[..start],
+        &first[start..end],
+        &second[..from],
+        &second[from..to],
+    );
+}
+
+// Writes two files that are handed over.
+fn write_both(first: &[u8; FILE_ROOM], place: Place, second: &[u8; FILE_ROOM], other: Place)
+    requires { ⌜ Within place (now first) ⌝ }
+    requires { ⌜ Within other (now second) ⌝ }
+{
+    write_placed(first, place, second, other);
+}
 
 // Reads, prints and writes in the folder in which the program was started.
 pub fn run() {

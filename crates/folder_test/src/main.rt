@@ -3,8 +3,8 @@
 // The runs, in their order: nothing is there; no bank; document 01's example; the same over older and longer files; no edits; over older
 // files, a score of 8,193 bytes and of 8,192, edits of 8,193 and of 8,192, and a bank that is a byte long and a byte short; the last with
 // no files there; over older files, with a folder in the way of a new file; and once that is gone.
-use folder::reading::read_file;
-use folder::writing::write_file;
+use files::reading::read_file;
+use files::writing::write_file;
 use inputs::BANK_BYTES;
 use inputs::MOST_TEXT;
 use retake_lib::BANK_ROOM;

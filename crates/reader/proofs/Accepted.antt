@@ -8,16 +8,17 @@ use borrow.Author.Tests.{eqb-true, eqb-false, le-ltb}
 use lib.Dec.{eqb}
 use lib.ListN.{length, drop, length-append, length-drop, length-map}
 use lib.Seq.{take-at, drop-at}
-use Rattle.reader.specs.declared.table.Source.{Source}
+use Rattle.names.specs.declared.Source.{Source}
 use Rattle.reader.specs.declared.ReadAnswer.{ReadAnswer}
 use Rattle.reader.specs.declared.ReadAnswer.the-variants.{Read, Refused}
 use Rattle.score.specs.Numbers.{limitNumber, namesNumber}
 use Rattle.score.specs.Rows.{rowWords}
 use Rattle.score.specs.Limits.{rowWithin, firstBad, badRefusal, limitRefusal}
 use Rattle.text.specs.Text.{Line, linesOf, firstOf, restOf}
-use Rattle.reader.specs.Sources.{sourcesOf, sourcesBy, namesOn, holdsNames, rowOf, rowsOf}
-use Rattle.reader.specs.Reading.{refusedAt, lineNumber, testLines, testText, textRows, countNumber, settle, readText, scoreTable, readOf, Outcome, Accepted}
-use Rattle.reader.proofs.Values.{value, number-by-limit}
+use Rattle.names.specs.Sources.{sourcesOf, sourcesBy, namesOn, holdsNames}
+use Rattle.values.specs.Lines.{rowOf, rowsOf, lineNumber}
+use Rattle.reader.specs.Reading.{refusedAt, testLines, testText, textRows, countNumber, settle, readText, scoreTable, readOf, Outcome, Accepted}
+use Rattle.values.proofs.Values.{value, number-by-limit}
 use Rattle.reader.proofs.Storing.{same-count, not-both}
 use Rattle.reader.proofs.Settling.{room, row-count, settle-refused, settle-count, settle-stored}
 

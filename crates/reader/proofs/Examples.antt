@@ -12,10 +12,10 @@ use Rattle.score.specs.Limits.{floatTo, limit, rowWithin}
 use Rattle.reader.specs.declared.ReadAnswer.the-variants.{Read}
 use Rattle.score.specs.Numbers.{refusal}
 use Rattle.text.specs.Text.{bytes, split, linesOf, columnOf}
-use Rattle.reader.specs.Sources.{sourcesOf, eachReadable, columnCount, eachOnce, holdsNames}
+use Rattle.names.specs.Sources.{sourcesOf, eachReadable, columnCount, eachOnce, holdsNames}
 use Rattle.text.specs.Text.{isDigit, digitOf, eachDigit, isWord, followedBy, wordOf, eachWord}
-use Rattle.reader.specs.Sources.{holdsWords, rowOf, rowsOf}
-use Rattle.reader.specs.Reading.{outcome, lineNumber, testLines, testText, textRows, refuse, countNumber, settle, readText, scoreTable, readOf, editTable, readEditsOf}
+use Rattle.values.specs.Lines.{holdsWords, rowOf, rowsOf, lineNumber}
+use Rattle.reader.specs.Reading.{outcome, testLines, testText, textRows, refuse, countNumber, settle, readText, scoreTable, readOf, editTable, readEditsOf}
 
 -- "42f00000 is note 120"; "3f800000 passes as timbre, 3f800001 gives 9"; "-0 passes, NaN doesn't"; "restart the whole number 0 or 1"
 pub limits : (limit note 0x42f00000 ≡ true) × (limit note 0x42f00001 ≡ false) × (limit timbre 0x3f800000 ≡ true) × (limit timbre 0x3f800001 ≡ false)

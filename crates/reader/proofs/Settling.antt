@@ -9,20 +9,21 @@ use borrow.Author.Tests.{lt-ltb, le-ltb, ltb-false, ne-eqb, eqb-true, eqb-false}
 use lib.Dec.{eqb, ltb}
 use lib.ListN.{length, take, drop, replicate}
 use Rattle.score.specs.declared.refusal.Refusal.{Refusal}
-use Rattle.reader.specs.declared.table.Source.{Source}
-use Rattle.reader.specs.declared.table.Source.the-variants.{Missing}
+use Rattle.names.specs.declared.Source.{Source}
+use Rattle.names.specs.declared.Source.the-variants.{Missing}
 use Rattle.reader.specs.declared.ReadAnswer.{ReadAnswer}
 use Rattle.reader.specs.declared.ReadAnswer.the-variants.{Read, Refused}
 use Rattle.score.specs.Numbers.{refusal, rowsNumber, namesNumber, spaceNumber}
 use Rattle.score.specs.Rows.{rowWords, mostRows}
 use Rattle.text.specs.Text.{lf, space as blank, bytes, split, Line, linesOf, firstOf, fieldsOf}
-use Rattle.reader.specs.Sources.{Entry, sourcesOf, eachReadable, columnCount, eachOnce, holdsNames, rowsOf}
-use Rattle.reader.specs.Reading.{refusedAt, outcome, lineNumber, testLines, testText, textRows, refuse, countNumber, settle, readText, scoreTable, editTable}
-use Rattle.reader.specs.Inner.{mostNames, tableOf}
+use Rattle.names.specs.Sources.{Entry, sourcesOf, eachReadable, columnCount, eachOnce, holdsNames}
+use Rattle.names.specs.Inner.{mostNames, tableOf}
+use Rattle.values.specs.Lines.{rowsOf, lineNumber}
+use Rattle.reader.specs.Reading.{refusedAt, outcome, testLines, testText, textRows, refuse, countNumber, settle, readText, scoreTable, editTable}
 use Rattle.words.proofs.Cases.{both}
 use Rattle.text.proofs.Split.{reach, first-piece}
 use Rattle.text.proofs.FirstLine.{first-line, open-line}
-use Rattle.reader.proofs.Values.{unlimited, value}
+use Rattle.values.proofs.Values.{unlimited, value}
 use Rattle.reader.proofs.Storing.{not-both}
 
 -- ---- 6, and then 12

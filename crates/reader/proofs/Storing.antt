@@ -12,15 +12,16 @@ use lib.Dec.{eqb}
 use lib.ListN.{length, take, drop, length-append, length-drop, take-append-drop}
 use lib.Seq.{length-take-le, take-at, drop-at, drop-drop}
 use Rattle.reader.specs.declared.ReadAnswer.the-variants.{Read}
-use Rattle.reader.specs.declared.table.Source.{Source}
+use Rattle.names.specs.declared.Source.{Source}
 use Rattle.text.specs.Text.{Line, linesOf, restOf}
-use Rattle.reader.specs.Sources.{holdsWords, rowOf, rowsOf}
-use Rattle.reader.specs.Reading.{refusedAt, lineNumber, testLines}
-use Rattle.reader.specs.Inner.{lineAt}
+use Rattle.values.specs.Lines.{holdsWords, rowOf, rowsOf, lineNumber}
+use Rattle.values.specs.Inner.{lineAt}
+use Rattle.reader.specs.Reading.{refusedAt, testLines}
 use Rattle.words.proofs.Cases.{le-or-lt}
 use Rattle.text.proofs.FirstLine.{some-line}
-use Rattle.reader.proofs.Fields.{fieldBytes}
-use Rattle.reader.proofs.Values.{tested-from, number-at, value, first-tested, none-left, next-line, line-fits, line-passes}
+use Rattle.values.proofs.Fields.{fieldBytes}
+use Rattle.values.proofs.Values.{value, next-line, line-fits}
+use Rattle.reader.proofs.Testing.{tested-from, number-at, first-tested, none-left, line-passes}
 
 -- ---- an answer is a number of rows or a refusal
 pub same-count : (a b : ℕ) → Read a ≡ Read b → a ≡ b

@@ -1,20 +1,21 @@
 -- Document 01, "Calls and their numbers" for the reader, and "The program `retake`" for the edits text: the refusals in their order, and what a call leaves.
 use Prim.Native.Nat.{ℕ, suc, _*_, _≤_, _<_}
 use mathlib.Core.Path.{_≡_}
-use mathlib.Core.Bool.{Bool, true, false, not, _&&_, _||_, cond}
+use mathlib.Core.Bool.{Bool, true, false, _&&_, _||_, cond}
 use mathlib.Core.List.{List, [], _∷_, _++_, map}
 use lib.ListN.{length, drop}
 use lib.Dec.{ltb, eqb}
 use Rattle.score.specs.declared.refusal.Refusal.{Refusal}
 use Rattle.reader.specs.declared.ReadAnswer.{ReadAnswer}
 use Rattle.reader.specs.declared.ReadAnswer.the-variants.{Read, Refused}
-use Rattle.score.specs.Numbers.{refusal, accepted, rowsNumber, limitNumber, namesNumber, valueNumber, spaceNumber, Result, done, refused}
+use Rattle.score.specs.Numbers.{refusal, accepted, rowsNumber, namesNumber, spaceNumber, Result, done, refused}
 use Rattle.score.specs.Rows.{rowWords, mostRows, Name, note, timbre, morph, harmonics, restart, rowNames}
-use Rattle.score.specs.Limits.{rowWithin, limitRefusal}
-use Rattle.reader.specs.declared.table.Source.{Source}
-use Rattle.reader.specs.declared.table.Source.the-variants.{Missing}
+use Rattle.score.specs.Limits.{limitRefusal}
+use Rattle.names.specs.declared.Source.{Source}
+use Rattle.names.specs.declared.Source.the-variants.{Missing}
 use Rattle.text.specs.Text.{bytes, Line, linesOf, firstOf, restOf}
-use Rattle.reader.specs.Sources.{Entry, holdsNames, namesOn, sourcesBy, holdsWords, rowOf, rowsOf}
+use Rattle.names.specs.Sources.{Entry, holdsNames, namesOn, sourcesBy}
+use Rattle.values.specs.Lines.{rowsOf, lineNumber}
 
 -- "Result of a refusal: number and place."
 abbrev pub refusedAt : ℕ → ℕ → ReadAnswer
@@ -26,11 +27,6 @@ resultOf (Read count) = done (count ∷ [])
 resultOf (Refused r) = refused r
 
 -- ---- a text of any table of names
-
--- "11 before 9": the number that refuses a line of values, 0 if none does, where the first line has n names. 9 is tested in a score alone.
-unfoldable pub lineNumber : ℕ → List Source → Bool → Line → ℕ
-lineNumber n sources score line =
-    cond (holdsWords n line) (cond (not score || rowWithin (rowOf sources line)) 0 limitNumber) valueNumber
 
 -- "line after line": lines of values, the first of them number `at`. Success carries how many there are.
 unfoldable pub testLines : ℕ → List Source → Bool → ℕ → List Line → ReadAnswer

@@ -1,16 +1,10 @@
 // Reading a text of rows: one pass tests it, and only a text that passes is written.
-mod lines;
-mod table;
-
-use crate::lines::FIELD;
-use crate::lines::line_number;
-use crate::lines::write_row;
-use crate::table::MOST_NAMES;
-use crate::table::Shape;
-use crate::table::Source;
-use crate::table::each_once;
-use crate::table::places_of;
-use crate::table::sources_of;
+use names::MOST_NAMES;
+use names::Shape;
+use names::Source;
+use names::each_once;
+use names::places_of;
+use names::sources_of;
 use score::refusal::NAMES;
 use score::refusal::ROWS;
 use score::refusal::Refusal;
@@ -20,6 +14,9 @@ use score::rows::ROW_WORDS;
 use text::pieces::LF;
 use text::pieces::count_fields;
 use text::pieces::piece_end;
+use values::FIELD;
+use values::line_number;
+use values::write_row;
 ghost use mathlib.Core.Path.{_≡_};
 ghost use mathlib.Core.Bool.{true, false};
 ghost use mathlib.Core.List.{_++_};
@@ -28,9 +25,11 @@ ghost use lib.ListN.{length, drop};
 ghost use Rattle.reader.specs.declared.ReadAnswer.the-variants.{Read};
 ghost use Rattle.score.specs.Rows.{rowWords};
 ghost use Rattle.text.specs.Text.{linesOf, fieldsOf};
-ghost use Rattle.reader.specs.Sources.{rowsOf};
+ghost use Rattle.names.specs.Inner.{mostNames, tableOf, rowSources};
+ghost use Rattle.values.specs.Lines.{rowsOf};
+ghost use Rattle.values.specs.Inner.{Sourced};
 ghost use Rattle.reader.specs.Reading.{testLines, countNumber, outcome, readText, readOf, readEditsOf};
-ghost use Rattle.reader.specs.Inner.{mostNames, tableOf, rowSources, Sourced, readLines};
+ghost use Rattle.reader.specs.Inner.{readLines};
 
 // What reading a text gives.
 pub enum ReadAnswer {

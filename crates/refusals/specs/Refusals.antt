@@ -7,7 +7,7 @@ use lib.ListN.{length}
 use Rattle.utils.specs.Rendered.{mostFrames}
 use Rattle.oscillator.specs.Bank.{bankLength}
 use Rattle.terrain.specs.Heights.{mapLength}
-use Rattle.voice.specs.Voice.{mapInstrument, keptCount}
+use Rattle.voice.specs.Voice.{mapInstrument, oscillatorInstrument, keptCount}
 use Rattle.score.specs.Rows.{rowWords, mostRows, putRow}
 use Rattle.score.specs.Limits.{limitRefusal}
 use Rattle.score.specs.Numbers.{instrumentNumber, rateNumber, blockNumber, bankNumber, mapNumber, rowsNumber, takeNumber, positionNumber, refusal}
@@ -18,9 +18,9 @@ use Rattle.rows.specs.Rows.{Setup, Take}
 abbrev pub rowCount : List ℕ → ℕ
 rowCount rows = length rows / rowWords
 
--- 1: "not 0 wavetable, 1 terrain, 2 terrain with map"
+-- 1: "not 0 wavetable, 1 terrain, 2 terrain with map"; "Number 1 now means above 3"
 abbrev pub wrongInstrument : ℕ → Bool
-wrongInstrument instrument = ltb mapInstrument instrument
+wrongInstrument instrument = ltb oscillatorInstrument instrument
 
 -- 2: "whole number of Hz outside 32,000 to 192,000"
 abbrev pub lowestRate : ℕ
@@ -40,7 +40,7 @@ wrongBlock frames = eqb frames 0 || ltb mostFrames frames
 abbrev pub wrongBank : ℕ → Bool
 wrongBank bank = not (eqb bank bankLength)
 
--- 5: "length not 4,096 for 2, not 0 for 0 and 1"
+-- 5: "length not 4,096 for 2, not 0 for 0 and 1"; "and 5 wants length 0 here", on instrument 3
 abbrev pub mapLengthOf : ℕ → ℕ
 mapLengthOf instrument = cond (eqb instrument mapInstrument) mapLength 0
 

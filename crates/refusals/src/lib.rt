@@ -20,6 +20,7 @@ use score::rows::ROW_WORDS;
 use terrain::MAP_LENGTH;
 use utils::engine::MOST_FRAMES;
 use voice::KEPT_WORDS;
+use voice::OSCILLATOR;
 use voice::TERRAIN_WITH_MAP;
 
 const LOWEST_RATE: u32 = 32000;
@@ -41,7 +42,7 @@ fn map_length(instrument: u32) -> usize
 fn settings_number(instrument: u32, rate: u32, frames: usize, bank: usize, map: usize) -> u32
     ensures { λ r. ⌜ r ≡ settingsNumber instrument rate frames bank map ⌝ }
 {
-    if instrument > TERRAIN_WITH_MAP {
+    if instrument > OSCILLATOR {
         return INSTRUMENT;
     }
     if rate < LOWEST_RATE {

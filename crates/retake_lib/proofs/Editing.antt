@@ -9,7 +9,7 @@ use Rattle.reader.specs.Reading.{editWords}
 use Rattle.take.specs.declared.Answer.{Answer}
 use Rattle.rows.specs.Rows.{Setup, Take}
 use Rattle.take.specs.Take.{Outcome, outcome, editOf}
-use Rattle.take.specs.Retakes.{Edit, edited, after}
+use Rattle.retakes.specs.Retakes.{Edit, edited, after}
 use Rattle.formats.specs.Formats.{Written}
 use Rattle.formats.proofs.Writing.{written-more}
 use Rattle.outputs.specs.Lines.{editLine, mostLine}

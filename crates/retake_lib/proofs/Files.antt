@@ -23,7 +23,7 @@ use Rattle.reader.proofs.Accepted.{accepted-passes}
 use Rattle.rows.specs.Rows.{Take}
 use Rattle.refusals.specs.Refusals.{rowCount, renderRefusal, refusalOf, lentNumber, settingsNumber, lengthsNumber}
 use Rattle.take.specs.Take.{resultOf, renderOf}
-use Rattle.take.proofs.Retakes.{demand-3}
+use Rattle.retakes.proofs.Retakes.{demand-3}
 use Rattle.inputs.specs.Inputs.{mostText, mostRows, bankBytes, zeros, textOf, scoreText, editsText}
 use Rattle.inputs.proofs.Texts as texts
 use Rattle.outputs.specs.Files.{filesOf}

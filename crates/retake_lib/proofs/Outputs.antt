@@ -10,7 +10,7 @@ use Rattle.take.specs.declared.Answer.{Answer}
 use Rattle.voice.specs.Voice.{keptCount}
 use Rattle.rows.specs.Rows.{Setup, Take, lent}
 use Rattle.take.specs.Take.{outcome, renderOf}
-use Rattle.take.specs.Retakes.{Edit}
+use Rattle.retakes.specs.Retakes.{Edit}
 use Rattle.score.specs.declared.refusal.Refusal.{Refusal}
 use Rattle.inputs.specs.declared.Inputs.{Inputs}
 use Rattle.inputs.specs.Inputs.{zeros, TextsRead}

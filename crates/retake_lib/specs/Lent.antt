@@ -8,7 +8,7 @@ use Rattle.reader.specs.Reading.{editWords}
 use Rattle.take.specs.declared.Answer.{Answer}
 use Rattle.rows.specs.Rows.{Setup, Take}
 use Rattle.take.specs.Take.{outcome}
-use Rattle.take.specs.Retakes.{Edit, edited, after}
+use Rattle.retakes.specs.Retakes.{Edit, edited, after}
 use Rattle.inputs.specs.Inputs.{mostRows, mostEdits}
 use Rattle.outputs.specs.Lines.{editLine, mostLine}
 use Rattle.outputs.specs.Files.{fileRoom, Handed}

@@ -12,7 +12,7 @@ use Rattle.voice.specs.Voice.{keptCount}
 use Rattle.rows.specs.declared.Settings.{Settings}
 use Rattle.rows.specs.Rows.{Setup, setup, Take, lent}
 use Rattle.take.specs.Take.{Outcome, renderOf}
-use Rattle.take.specs.Retakes.{Edit, edited, after, scoreAfter, fresh, takeOf}
+use Rattle.retakes.specs.Retakes.{Edit, edited, after, scoreAfter, fresh, takeOf}
 use Rattle.inputs.specs.declared.Inputs.{Inputs}
 use Rattle.inputs.specs.declared.Inputs.the-variants.{Taken, Turned}
 use Rattle.inputs.specs.Inputs.{zeros, scoreText, editsText, inputsOf}

@@ -46,7 +46,7 @@ fn make_row(
         Makes (settings .frames) (rowBy (setup settings (now (bank .entry)) (now (map .entry))) row before)
         (r .holds) (now (out .exit)) (now (aux .exit)) (r .kept) ⌝ }
 {
-    let block = voice::render(
+    let block = blocks::render(
         rows::start(settings.instrument, settings.rate, row, before),
         rows::parameters(settings.rate, row),
         bank,

@@ -1,8 +1,2 @@
 -- What the proofs of this crate share.
 pub mod Calls
-pub mod Takes
-pub mod Runs
-pub mod FreshRows
-pub mod Editing
-pub mod Retakes
-pub mod Inherits

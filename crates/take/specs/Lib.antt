@@ -1,3 +1,2 @@
 pub mod Take
-pub mod Retakes
 pub mod Inner

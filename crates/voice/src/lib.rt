@@ -1,17 +1,12 @@
-// The state of a voice, its kept words, and the block of a row, for either voice.
+// The state of a voice and its kept words, for every voice.
 ghost use mathlib.Core.Path.{_≡_};
 ghost use lib.ListN.{length};
-ghost use Rattle.utils.specs.Rendered.{Places, Renders};
-ghost use Rattle.voice.specs.Voice.{voiceOf, keptCount, freshState, keptWords, wavetableOf, terrainOf, stateOf, rendered, Lent, Tables};
+ghost use Rattle.voice.specs.Voice.{voiceOf, keptCount, freshState, keptWords, wavetableOf, terrainOf, oscillatorOf, stateOf};
 use oscillator::sine_oscillator::FastSineOscillator;
 use oscillator::wavetable_oscillator::Differentiator;
-use utils::engine::CORNERS_LENGTH;
-use utils::engine::EngineParameters;
-use utils::engine::MOST_FRAMES;
-use utils::engine::RUN_LENGTH;
-use utils::holds::Holds;
 use wave_terrain_engine::WaveTerrainEngine;
 use wavetable_engine::WavetableEngine;
+use wavetable_oscillator::WavetableOscillator;
 
 // The instruments.
 pub const WAVETABLE: u32 = 0;
@@ -20,23 +15,21 @@ pub const TERRAIN: u32 = 1;
 
 pub const TERRAIN_WITH_MAP: u32 = 2;
 
+pub const OSCILLATOR: u32 = 3;
+
 // The words that are kept of a state.
 pub const KEPT_WORDS: usize = 13;
 
 pub enum Voice {
     Wavetable,
     Terrain,
+    Oscillator,
 }
 
 pub enum State {
     Wavetable(WavetableEngine),
     Terrain(WaveTerrainEngine),
-}
-
-// The state after a block, and what was held.
-pub struct Block {
-    pub state: State,
-    pub holds: Holds,
+    Oscillator(WavetableOscillator),
 }
 
 // Which voice an instrument plays. A number that is no instrument's is refused before a voice is asked for.
@@ -47,6 +40,7 @@ pub fn voice_of(instrument: u32) -> Voice
         WAVETABLE => Voice::Wavetable,
         TERRAIN => Voice::Terrain,
         TERRAIN_WITH_MAP => Voice::Terrain,
+        OSCILLATOR => Voice::Oscillator,
         _ => Voice::Wavetable,
     }
 }
@@ -58,6 +52,7 @@ pub fn fresh(voice: Voice, a0: f32) -> State
     match voice {
         Voice::Wavetable => State::Wavetable(WavetableEngine::init(a0)),
         Voice::Terrain => State::Terrain(WaveTerrainEngine::init()),
+        Voice::Oscillator => State::Oscillator(WavetableOscillator::init()),
     }
 }
 
@@ -103,6 +98,27 @@ fn terrain_words(s: WaveTerrainEngine) -> [u32; KEPT_WORDS]
     ]
 }
 
+// The words of a plain oscillator's state.
+fn oscillator_words(s: WavetableOscillator) -> [u32; KEPT_WORDS]
+    ensures { λ r. ⌜ r ≡ keptWords (State.Oscillator s) ⌝ }
+{
+    [
+        words::to_word(s.phase),
+        words::to_word(s.frequency),
+        words::to_word(s.amplitude),
+        words::to_word(s.waveform),
+        words::to_word(s.lp),
+        words::to_word(s.differentiator.lp),
+        words::to_word(s.differentiator.previous),
+        0,
+        0,
+        0,
+        0,
+        0,
+        0,
+    ]
+}
+
 // The words that are kept of a state.
 pub fn kept_words(s: State) -> [u32; KEPT_WORDS]
     ensures { λ r. ⌜ r ≡ keptWords s ⌝ }
@@ -110,6 +126,7 @@ pub fn kept_words(s: State) -> [u32; KEPT_WORDS]
     match s {
         State::Wavetable(w) => wavetable_words(w),
         State::Terrain(t) => terrain_words(t),
+        State::Oscillator(o) => oscillator_words(o),
     }
 }
 
@@ -154,6 +171,24 @@ fn terrain_of(kept: &[u32]) -> WaveTerrainEngine
     }
 }
 
+// The plain oscillator's state by kept words.
+fn oscillator_of(kept: &[u32]) -> WavetableOscillator
+    requires { ⌜ length (now kept) ≡ keptCount ⌝ }
+    ensures { λ r. ⌜ r ≡ oscillatorOf (now (kept .entry)) ⌝ }
+{
+    WavetableOscillator {
+        phase: words::of_word(kept[0]),
+        frequency: words::of_word(kept[1]),
+        amplitude: words::of_word(kept[2]),
+        waveform: words::of_word(kept[3]),
+        lp: words::of_word(kept[4]),
+        differentiator: Differentiator {
+            lp: words::of_word(kept[5]),
+            previous: words::of_word(kept[6]),
+        },
+    }
+}
+
 // The state of a voice by kept words.
 pub fn state_of(voice: Voice, kept: &[u32]) -> State
     requires { ⌜ length (now kept) ≡ keptCount ⌝ }
@@ -162,79 +197,6 @@ pub fn state_of(voice: Voice, kept: &[u32]) -> State
     match voice {
         Voice::Wavetable => State::Wavetable(wavetable_of(kept)),
         Voice::Terrain => State::Terrain(terrain_of(kept)),
-    }
-}
-
-// A row's block: one sample into each place of `out` and of `aux`. Tables and the arrays to work in are lent.
-pub fn render(
-    state: State,
-    parameters: EngineParameters,
-    bank: &[i16],
-    map: &[u8],
-    sine: &[f32; 641],
-    high: &[f32; 256],
-    low: &[f32; 256],
-    keys: &mut [u32; MOST_FRAMES],
-    run_1: &mut [f32; RUN_LENGTH],
-    run_2: &mut [f32; RUN_LENGTH],
-    run_3: &mut [f32; RUN_LENGTH],
-    run_4: &mut [f32; RUN_LENGTH],
-    corners: &mut [f32; CORNERS_LENGTH],
-    out: &mut [u32],
-    aux: &mut [u32],
-) -> Block
-    requires { ⌜ Lent (now bank) (now map) ⌝ }
-    requires { ⌜ Tables (now sine) (now high) (now low) ⌝ }
-    requires { ⌜ Places (now out) (now aux) ⌝ }
-    ensures { λ r. ⌜ Renders (rendered (now (bank .entry)) (now (map .entry)) (length (now (out .entry))) parameters state)
-        (length (now (out .entry))) (r .state) (r .holds) (now (out .exit)) (now (aux .exit)) ⌝ }
-{
-    match state {
-        State::Wavetable(w) => {
-            let b = w.render(
-                parameters,
-                bank,
-                high,
-                low,
-                keys,
-                run_1,
-                run_2,
-                run_3,
-                run_4,
-                corners,
-                out,
-                aux,
-            );
-            let s = b.state;
-            let holds = b.holds;
-            Block {
-                state: State::Wavetable(s),
-                holds,
-            }
-        }
-        State::Terrain(t) => {
-            let b = t.render(
-                parameters,
-                bank,
-                map,
-                sine,
-                high,
-                low,
-                keys,
-                run_1,
-                run_2,
-                run_3,
-                run_4,
-                corners,
-                out,
-                aux,
-            );
-            let s = b.state;
-            let holds = b.holds;
-            Block {
-                state: State::Terrain(s),
-                holds,
-            }
-        }
+        Voice::Oscillator => State::Oscillator(oscillator_of(kept)),
     }
 }

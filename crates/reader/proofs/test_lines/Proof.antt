@@ -3,9 +3,10 @@ use mathlib.Core.Path.{refl, sym, ap, _∙_}
 use Prim.Native.Nat.{_-_}
 use native.Mathlib.Omega.{arith}
 use lib.ListN.{length}
-use Rattle.reader.specs.Inner.{rowSources}
+use Rattle.names.specs.Inner.{rowSources}
 use Rattle.reader.specs.Reading.{refusedAt}
-use Rattle.reader.proofs.Values.{Tested, none-left, line-refused, line-fits, line-passes}
+use Rattle.values.proofs.Values.{line-fits}
+use Rattle.reader.proofs.Testing.{Tested, none-left, line-refused, line-passes}
 use borrow.Author.Needs.{needs}
 use Rattle.reader.proofs.test_lines.Statement.{statement}
 use Rattle.reader.proofs.test_lines.Tie as tie

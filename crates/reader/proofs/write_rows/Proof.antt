@@ -3,8 +3,9 @@ use mathlib.Core.Path.{ap, _∙_}
 use Prim.Native.Nat.{_-_}
 use native.Mathlib.Omega.{arith}
 use lib.ListN.{take}
-use Rattle.reader.specs.Sources.{rowOf}
-use Rattle.reader.specs.Inner.{lineAt, sourcesAt}
+use Rattle.names.specs.Inner.{sourcesAt}
+use Rattle.values.specs.Lines.{rowOf}
+use Rattle.values.specs.Inner.{lineAt}
 use Rattle.reader.proofs.Storing.{Stored, stores, words-there, next-fits, part-fits, part-long, stores-on, all-stored}
 use borrow.Author.Needs.{needs}
 use Rattle.reader.proofs.write_rows.Statement.{statement}

@@ -17,11 +17,20 @@ enum-known-s-2 c = search needs
 terrain-words-requires : tie.Need-terrain-words-requires
 terrain-words-requires c κs = search needs
 
+enum-known-s-3 : tie.Need-enum-known-s-3
+enum-known-s-3 c = search needs
+
+oscillator-words-requires : tie.Need-oscillator-words-requires
+oscillator-words-requires c κs = search needs
+
 returns : tie.Need-returns
 returns c = c .wavetable-words .ensures ∙ ap keptWords (sym (c .before .before .s .given .1))
 
 returns-2 : tie.Need-returns-2
 returns-2 c = c .terrain-words .ensures ∙ ap keptWords (sym (c .before .before .s2 .given .1))
+
+returns-3 : tie.Need-returns-3
+returns-3 c = c .oscillator-words .ensures ∙ ap keptWords (sym (c .before .before .s3 .given .1))
 
 pub kept-words-spec : {M : Type 1} → statement M
 kept-words-spec =
@@ -31,5 +40,8 @@ kept-words-spec =
     wavetable-words-requires
     enum-known-s-2
     terrain-words-requires
+    enum-known-s-3
+    oscillator-words-requires
     returns
-    returns-2)
+    returns-2
+    returns-3)

@@ -18,9 +18,13 @@ returns-3 c = rw (c .match .keys3)
 
 returns-4 : tie.Need-returns-4
 unfolding voiceOf
-returns-4 c =
+returns-4 c = rw (c .match .keys4)
+
+returns-5 : tie.Need-returns-5
+unfolding voiceOf
+returns-5 c =
     let none = c .match .rest in
-    simp (ne-eqb _ _ (none .0 .0 .1), ne-eqb _ _ (none .0 .1), ne-eqb _ _ (none .1))
+    simp (ne-eqb _ _ (none .0 .0 .0 .1), ne-eqb _ _ (none .0 .0 .1), ne-eqb _ _ (none .0 .1), ne-eqb _ _ (none .1))
 
 pub voice-of-spec : {M : Type 1} → statement M
-voice-of-spec = tie.close (tie.spec returns returns-2 returns-3 returns-4)
+voice-of-spec = tie.close (tie.spec returns returns-2 returns-3 returns-4 returns-5)

@@ -1,0 +1,1 @@
+// Demand 3: no code, only what `specs/` claims of the calls of `take`.
