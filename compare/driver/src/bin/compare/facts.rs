@@ -73,6 +73,13 @@ pub fn facts(published: &[i16], random: &mut Random, tally: &mut Tally) {
     same("held of a waveform that stays", &case, &held[..], &[0, 1, 100, 100, 100]);
     rendering(&case, case.junk_take(random), tally);
 
+    // On a flat wave the oscillator's sample sinks to -0; out, which starts at zero, then has +0.
+    let mut case = plain(3, 128, steady(20, [0x41c0_0000, 0, 0, 0, 0]));
+    case.bank.fill(-1000);
+    let rows = model_is_original(&case, tally);
+    same("the last sample and lp", &case, [rows[19].block.out[127], rows[19].kept[4] >> 31], [0, 1]);
+    rendering(&case, case.junk_take(random), tally);
+
     // The oscillator takes no map, and there is no instrument behind it.
     for (instrument, number) in [(3, 5), (4, 1)] {
         let mut case = plain(instrument, 24, steady(1, [0x4270_0000, 0, 0, 0, 0]));
