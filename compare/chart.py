@@ -10,7 +10,7 @@ import sys
 
 LOW, HIGH = 1e-4, 2.0
 LEFT, WIDTH, BAR, GAP, TOP = 280, 480, 16, 6, 44
-VOICES = {"0": "wavetable", "1": "terrain", "2": "terrain with map"}
+VOICES = {"0": "wavetable", "1": "terrain", "2": "terrain with map", "3": "oscillator"}
 COLOURS = {"render": "#2b6cb0", "edit": "#2f855a", "read": "#b7791f"}
 
 

@@ -77,7 +77,9 @@ static void nulls(void) {
     CHECK(retake_render(0, 48000, 4, bank, 25344, NULL, 0, rows, 15, NULL, 0, aux, 12, kept, 39, &first, &second) == RETAKE_REFUSED_TAKE);
     CHECK(retake_render(0, 48000, 4, bank, 25344, NULL, 0, rows, 15, out, 12, NULL, 0, kept, 39, &first, &second) == RETAKE_REFUSED_TAKE);
     CHECK(retake_render(0, 48000, 4, bank, 25344, NULL, 0, rows, 15, out, 12, aux, 12, NULL, 0, &first, &second) == RETAKE_REFUSED_TAKE);
-    CHECK(retake_render(3, 0, 0, NULL, 0, NULL, 0, NULL, 0, NULL, 0, NULL, 0, NULL, 0, &first, &second) == RETAKE_REFUSED_INSTRUMENT);
+    CHECK(retake_render(3, 48000, 4, bank, 25344, map, 4096, rows, 15, out, 12, aux, 12, kept, 39, &first, &second) == RETAKE_REFUSED_MAP);
+    CHECK(retake_render(3, 0, 0, NULL, 0, NULL, 0, NULL, 0, NULL, 0, NULL, 0, NULL, 0, &first, &second) == RETAKE_REFUSED_RATE);
+    CHECK(retake_render(4, 0, 0, NULL, 0, NULL, 0, NULL, 0, NULL, 0, NULL, 0, NULL, 0, &first, &second) == RETAKE_REFUSED_INSTRUMENT);
     CHECK(retake_render(0, 48000, 4, bank, 25344, NULL, 0, rows, 15, out, 12, aux, 12, kept, 39, &first, &second) == RETAKE_DONE && first == 3);
     CHECK(retake_edit(0, 48000, 4, bank, 25344, NULL, 0, NULL, 0, 0, 0, 0, 0, 0, 0, out, 12, aux, 12, kept, 39, &first, &second) == RETAKE_REFUSED_ROWS);
     CHECK(retake_edit(1, 48000, 4, bank, 25344, NULL, 0, rows, 15, 0, 0, 0, 0, 0, 0, NULL, 0, NULL, 0, NULL, 0, &first, &second) == RETAKE_REFUSED_TAKE);
@@ -143,7 +145,7 @@ static void accepted(uint32_t instrument) {
 /* Every refusal, through the structs. */
 static void refusals(void) {
     const retake_row row = {60.0f, 0.5f, 0.5f, 0.5f, 0};
-    retake_settings settings = settings_of(3);
+    retake_settings settings = settings_of(RETAKE_OSCILLATOR + 1);
     retake_take take = take_of();
     retake_score score = score_of(ROOM * RETAKE_ROW_WORDS);
     score.count = ROWS;
@@ -164,6 +166,8 @@ static void refusals(void) {
     CHECK(refused(retake_render_score(&settings, &score, &take), RETAKE_REFUSED_BANK, 0));
     settings = settings_of(RETAKE_TERRAIN_WITH_MAP);
     settings.instrument = RETAKE_TERRAIN;
+    CHECK(refused(retake_render_score(&settings, &score, &take), RETAKE_REFUSED_MAP, 0));
+    settings.instrument = RETAKE_OSCILLATOR;
     CHECK(refused(retake_render_score(&settings, &score, &take), RETAKE_REFUSED_MAP, 0));
     settings = settings_of(RETAKE_WAVETABLE);
     score.count = 0;
@@ -204,6 +208,7 @@ int main(void) {
     accepted(RETAKE_WAVETABLE);
     accepted(RETAKE_TERRAIN);
     accepted(RETAKE_TERRAIN_WITH_MAP);
+    accepted(RETAKE_OSCILLATOR);
     refusals();
     texts();
     printf("header: as it says\n");

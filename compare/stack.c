@@ -63,7 +63,7 @@ int main(void) {
         rows[i * 5 + 3] = i % 2 ? 0x3f800000 : 0x3f000000;
         rows[i * 5 + 4] = 0;
     }
-    for (instrument = 0; instrument < 3; instrument++) {
+    for (instrument = 0; instrument < 4; instrument++) {
         size_t bytes = used(render) - own;
         printf("instrument %u: rendering of %llu rows %zu bytes", instrument, (unsigned long long)first, bytes);
         if (answer) return 1;

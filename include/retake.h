@@ -20,6 +20,14 @@
  * A take is what a score plays: `out` and `aux`, rows times frames words each, and `kept`, 13 words
  * for each row, the voice's state after it.
  *
+ * Instruments
+ *
+ *     0 wavetable          the wavetable voice
+ *     1 terrain            the wave terrain voice
+ *     2 terrain with map   the same, with the lent map as its last terrain
+ *     3 oscillator         the plain oscillator: timbre goes along the first 64 waves of the bank, morph
+ *                          and harmonics keep their limits and change nothing, and aux is 0
+ *
  * Two ways to call
  *
  * The library has three functions: retake_read_score, retake_render, retake_edit. Below them stand
@@ -57,11 +65,11 @@
  * `held` counts how often a position was held at its top. A refused call changes no lent buffer.
  *
  *     number         when                                                     place
- *      1 instrument  not 0 wavetable, 1 terrain, 2 terrain with map           0
+ *      1 instrument  above 3                                                  0
  *      2 rate        outside 32,000 to 192,000 Hz                             0
  *      3 block       frames 0 or above 128                                    0
  *      4 bank        length not 25,344                                        0
- *      5 map         length not 4,096 for instrument 2, not 0 for 0 and 1     0
+ *      5 map         length not 4,096 for instrument 2, not 0 for the others  0
  *      6 rows        words not a multiple of 5; rows 0 or above 4,096         0
  *      7 take        out or aux not rows times frames, kept not 13 times rows 0
  *      8 position    edited row not below the row count                       the position
@@ -89,9 +97,9 @@ extern "C" {
 /* The version of this header and of the archive that is built beside it. A number is added to an enum,
  * a member to the end of a struct or a function in a minor version; anything else moves the major one. */
 #define RETAKE_VERSION_MAJOR 0
-#define RETAKE_VERSION_MINOR 1
+#define RETAKE_VERSION_MINOR 2
 #define RETAKE_VERSION_PATCH 0
-#define RETAKE_VERSION "0.1.0"
+#define RETAKE_VERSION "0.2.0"
 
 #define RETAKE_ROW_WORDS 5        /* words of a row */
 #define RETAKE_KEPT_WORDS 13      /* words kept after each row */
@@ -108,7 +116,8 @@ extern "C" {
 enum retake_instrument {
     RETAKE_WAVETABLE = 0,
     RETAKE_TERRAIN = 1,
-    RETAKE_TERRAIN_WITH_MAP = 2
+    RETAKE_TERRAIN_WITH_MAP = 2,
+    RETAKE_OSCILLATOR = 3
 };
 
 enum retake_refusal {

@@ -14,6 +14,9 @@ pub enum Instrument<'a> {
     Terrain,
     /// The wave terrain voice, with a map as its last layer.
     TerrainWithMap(&'a [u8; MAP]),
+    /// The plain oscillator, along the first 64 waves of the bank. It plays on out alone, and morph and
+    /// harmonics change nothing.
+    Oscillator,
 }
 
 impl<'a> Instrument<'a> {
@@ -22,6 +25,7 @@ impl<'a> Instrument<'a> {
             Instrument::Wavetable => 0,
             Instrument::Terrain => 1,
             Instrument::TerrainWithMap(_) => 2,
+            Instrument::Oscillator => 3,
         }
     }
 

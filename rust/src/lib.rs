@@ -1,5 +1,5 @@
-//! Automation scores played through the Plaits wavetable and wave terrain voices, with single-row
-//! retakes. Safe Rust over the proved library `libretake_c.a`.
+//! Automation scores played through the Plaits wavetable and wave terrain voices and its plain
+//! oscillator, with single-row retakes. Safe Rust over the proved library `libretake_c.a`.
 //!
 //! A score is a list of [`Row`]s: note, timbre, morph, harmonics and restart. Each row plays one block
 //! of equal length. A [`Reel`] owns a score and the take that it plays: it is made by rendering the

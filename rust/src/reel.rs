@@ -14,6 +14,7 @@ enum Voice {
     Wavetable,
     Terrain,
     TerrainWithMap(Box<[u8; MAP]>),
+    Oscillator,
 }
 
 impl Voice {
@@ -22,6 +23,7 @@ impl Voice {
             Instrument::Wavetable => Voice::Wavetable,
             Instrument::Terrain => Voice::Terrain,
             Instrument::TerrainWithMap(map) => Voice::TerrainWithMap(Box::new(*map)),
+            Instrument::Oscillator => Voice::Oscillator,
         }
     }
 
@@ -30,6 +32,7 @@ impl Voice {
             Voice::Wavetable => Instrument::Wavetable,
             Voice::Terrain => Instrument::Terrain,
             Voice::TerrainWithMap(map) => Instrument::TerrainWithMap(map),
+            Voice::Oscillator => Instrument::Oscillator,
         }
     }
 }
@@ -204,6 +207,7 @@ impl fmt::Debug for Reel {
             Voice::Wavetable => "Wavetable",
             Voice::Terrain => "Terrain",
             Voice::TerrainWithMap(_) => "TerrainWithMap",
+            Voice::Oscillator => "Oscillator",
         };
         f.debug_struct("Reel")
             .field("voice", &voice)

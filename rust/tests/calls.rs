@@ -4,7 +4,7 @@ mod common;
 
 use std::ptr::{null, null_mut};
 
-use common::{ROW, Series, bank, map, setup};
+use common::{ROW, Series, bank, instruments, map, setup};
 use wohketa_retake::{
     BANK, Column, Instrument, KEPT_WORDS, MAP, Reason, Refusal, Row, Setup, Take, edit, read_score, render, sys,
 };
@@ -30,7 +30,7 @@ fn refused<T: std::fmt::Debug>(result: Result<T, Refusal>) -> (Reason, u64) {
 #[test]
 fn a_rendering_writes_every_word_of_a_junk_take() {
     let (bank, map) = (bank(), map());
-    for instrument in [Instrument::Wavetable, Instrument::Terrain, Instrument::TerrainWithMap(&map)] {
+    for instrument in instruments(&map) {
         let setup = setup(instrument, &bank);
         let (mut take, mut zeros) = (junk(40), Take::new(40, 24));
         assert_eq!(render(&setup, &rows(40), &mut take).unwrap().rows, 40);
@@ -70,14 +70,46 @@ fn samples_and_kept_words_are_the_models() {
 #[test]
 fn each_instrument_plays_its_own_samples() {
     let (bank, map) = (bank(), map());
-    let takes = [Instrument::Wavetable, Instrument::Terrain, Instrument::TerrainWithMap(&map)].map(|instrument| {
+    let takes = instruments(&map).map(|instrument| {
         let mut take = Take::new(2, 24);
         let row = Row { harmonics: 1.0, ..ROW };
         render(&setup(instrument, &bank), &[row.words(), row.words()].concat(), &mut take).unwrap();
         take
     });
-    assert!(takes[0].out != takes[1].out && takes[1].out != takes[2].out && takes[2].out != takes[0].out);
+    for (at, take) in takes.iter().enumerate() {
+        assert!(takes[..at].iter().all(|other| other.out != take.out));
+    }
     assert!(takes[1].kept[6..13].iter().all(|word| *word == 0));
+    assert!(takes[3].kept[7..13].iter().all(|word| *word == 0));
+    assert!(takes[3].aux.iter().all(|word| *word == 0));
+}
+
+#[test]
+fn the_oscillator_hears_neither_morph_nor_harmonics() {
+    let bank = bank();
+    let setup = setup(Instrument::Oscillator, &bank);
+    let (mut score, mut take) = (rows(5), junk(5));
+    render(&setup, &score, &mut take).unwrap();
+    let before = take.clone();
+    let other = Row { timbre: 0.2, morph: 1.0, harmonics: 0.0, ..ROW };
+    let report = edit(&setup, &mut score, 2, other, &mut take).unwrap();
+    assert_eq!((report.rows, report.held), (1, 0));
+    assert_eq!(take, before);
+    let loud = Row { morph: 1.5, ..ROW };
+    assert_eq!(refused(edit(&setup, &mut score, 2, loud, &mut take)), (Reason::Limit, 2));
+}
+
+#[test]
+fn a_waveform_past_the_last_wave_is_held() {
+    let bank = bank();
+    let setup = Setup { frames: 52, ..setup(Instrument::Oscillator, &bank) };
+    let bright = Row { timbre: 1.0, ..ROW };
+    let mut score = [Row { timbre: 0.519_531_25, ..ROW }.words(), bright.words(), bright.words()].concat();
+    let mut take = Take::new(3, 52);
+    let report = render(&setup, &score, &mut take).unwrap();
+    assert_eq!((report.rows, report.held), (3, 53));
+    let report = edit(&setup, &mut score, 2, Row { timbre: 0.5, ..ROW }, &mut take).unwrap();
+    assert_eq!((report.rows, report.held), (1, 0));
 }
 
 #[test]
@@ -158,10 +190,11 @@ fn instruments_and_lengths_of_other_callers_are_refused() {
         };
         (Reason::of(number), first, second)
     };
-    assert_eq!(reason(3, BANK), (Reason::Instrument, 0, 0));
+    assert_eq!(reason(4, BANK), (Reason::Instrument, 0, 0));
     assert_eq!(reason(0, BANK - 1), (Reason::Bank, 0, 0));
     assert_eq!(reason(2, BANK), (Reason::Map, 0, 0));
     assert_eq!(reason(1, BANK), (Reason::Rows, 0, 0));
+    assert_eq!(reason(3, BANK), (Reason::Rows, 0, 0));
 }
 
 #[test]

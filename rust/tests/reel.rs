@@ -2,7 +2,7 @@
 
 mod common;
 
-use common::{ROW, Series, bank, map, setup};
+use common::{ROW, Series, bank, instruments, map, setup};
 use wohketa_retake::{Column, Instrument, KEPT_WORDS, Reason, Reel, Row, samples};
 
 /// The same score, take and rows' blocks, word by word.
@@ -14,7 +14,7 @@ fn assert_same(reel: &Reel, fresh: &Reel) {
 #[test]
 fn after_a_list_of_edits_a_reel_is_a_fresh_one() {
     let (bank, map) = (bank(), map());
-    for instrument in [Instrument::Wavetable, Instrument::Terrain, Instrument::TerrainWithMap(&map)] {
+    for instrument in instruments(&map) {
         let setup = setup(instrument, &bank);
         let mut series = Series(1);
         let score: Vec<Row> = (0..60).map(|_| series.row()).collect();

@@ -32,17 +32,14 @@ impl Case {
 
     /// An acceptable case with at most `most` rows.
     pub fn random(random: &mut Random, published: &[i16], most: usize) -> Case {
-        let instrument = random.below(3) as u32;
+        let instrument = random.below(4) as u32;
         let count = 1 + random.below(most);
         let map = if instrument == 2 { map(random) } else { Vec::new() };
-        Case {
-            instrument,
-            rate: rate(random),
-            frames: frames(random),
-            bank: bank(random, published),
-            map,
-            rows: rows(random, count),
-        }
+        let (rate, frames) = (rate(random), frames(random));
+        let bank = bank(random, published);
+        let brightening = instrument == 3 && random.once_in(4);
+        let rows = if brightening { brightening_rows(random, count) } else { rows(random, count) };
+        Case { instrument, rate, frames, bank, map, rows }
     }
 }
 
@@ -122,6 +119,17 @@ pub fn rows(random: &mut Random, count: usize) -> Vec<u32> {
     rows
 }
 
+/// Rows whose timbre from some row on is 1: there the oscillator's waveform may come to 63.
+pub fn brightening_rows(random: &mut Random, count: usize) -> Vec<u32> {
+    let mut rows = rows(random, count);
+    let from = random.below(count);
+    for row in rows.chunks_mut(ROW_WORDS).skip(from) {
+        row[1] = 1f32.to_bits();
+        row[4] = 0;
+    }
+    rows
+}
+
 /// Rows of a usual score: each value anywhere in the middle of its limits, a restart every `restarts` rows.
 pub fn usual_rows(random: &mut Random, count: usize, restarts: usize) -> Vec<u32> {
     (0..count)
@@ -184,6 +192,12 @@ pub fn odd_state(random: &mut Random, instrument: u32) -> [u32; KEPT_WORDS] {
             (0, 1..=9) => x * 7.5,
             (0, 10) => x * 0.2,
             (0, _) => (x - 0.5) * 60_000.0,
+            (3, 0) => x * 2.1,
+            (3, 1) => x * 0.25,
+            (3, 2) => x * 0.05,
+            (3, 3) => x * 64.0,
+            (3, 4..=6) => (x - 0.5) * 60_000.0,
+            (3, _) => 0.0,
             (_, 0 | 1) => x * 3.0 - 1.5,
             (_, 2 | 3) => x * 1.5,
             (_, 4) => x * 3.0 - 1.5,

@@ -1,13 +1,14 @@
-//! A score renderer over the original's two engines.
+//! A score renderer over the original's two engines and its plain oscillator.
 
 use std::panic::{AssertUnwindSafe, catch_unwind, set_hook, take_hook};
 
 use model::floats::{a0, word};
 use model::voice::Parameters;
-use model::{KEPT_WORDS, ROW_WORDS, Setup};
+use model::{KEPT_WORDS, ROW_WORDS, Setup, WAVE};
 use original::engine::wavetable_engine::WavetableEngine;
-use original::engine::{Engine, EngineParameters};
+use original::engine::{Engine, EngineParameters, note_to_frequency};
 use original::engine2::wave_terrain_engine::WaveTerrainEngine;
+use original::oscillator::wavetable_oscillator::WavetableOscillator;
 use original::resources::waves::WAV_INTEGRATED_WAVES;
 
 /// The published bank, as long as nothing was lent.
@@ -25,12 +26,44 @@ pub fn silence_panics() {
     }));
 }
 
+/// Samples of a wave's period, and how many waves the oscillator is handed.
+const TABLE_SIZE: usize = 128;
+const NUM_WAVES: usize = 64;
+
+/// The plain oscillator and the waves that its `render` is handed: the first 64 of a bank, 132 samples each.
+struct Plain<'a> {
+    oscillator: WavetableOscillator,
+    waves: [&'a [i16]; NUM_WAVES],
+}
+
+impl<'a> Plain<'a> {
+    fn new(bank: &'a [i16]) -> Self {
+        let waves = std::array::from_fn(|i| &bank[i * WAVE..][..WAVE]);
+        Plain { oscillator: WavetableOscillator::new(), waves }
+    }
+
+    fn init(&mut self) {
+        self.oscillator.init();
+    }
+
+    /// One row: amplitude 1, the waveform from timbre, both flags true. The oscillator's `render` adds to
+    /// out, which starts at zero, and has no aux.
+    #[inline]
+    fn render(&mut self, p: &EngineParameters, out: &mut [f32], aux: &mut [f32]) {
+        out.fill(0.0);
+        aux.fill(0.0);
+        let frequency = note_to_frequency(p.note, p.a0_normalized);
+        self.oscillator.render(frequency, 1.0, p.timbre, &self.waves, out, TABLE_SIZE, NUM_WAVES, true, true);
+    }
+}
+
 enum Voice<'a> {
     Wavetable(WavetableEngine<'a>),
     Terrain(WaveTerrainEngine<'a>),
+    Oscillator(Plain<'a>),
 }
 
-/// One of the original's engines, set up for a score's rows.
+/// One of the original's voices, set up for a score's rows.
 pub struct Original<'a> {
     setup: Setup<'a>,
     voice: Voice<'a>,
@@ -45,8 +78,8 @@ pub struct Rendered {
 }
 
 impl<'a> Original<'a> {
-    /// The engine after `init`. The bank is lent by `set_wavetables`, or put in the place of the table
-    /// that the terrain engine reads by name.
+    /// The voice after `init`. The bank is lent by `set_wavetables`, or put in the place of the table
+    /// that the terrain engine reads by name; the oscillator is handed its waves with each row.
     pub fn new(setup: Setup<'a>) -> Self {
         let bank: &'a [i16; model::BANK] = setup.bank.try_into().expect("a whole bank");
         let voice = match setup.instrument {
@@ -55,9 +88,10 @@ impl<'a> Original<'a> {
                 engine.set_wavetables(bank);
                 Voice::Wavetable(engine)
             }
+            3 => Voice::Oscillator(Plain::new(bank)),
             _ => {
-                // SAFETY: the driver has one thread, and no engine keeps a reference to the table:
-                // the wavetable engine above was handed another.
+                // SAFETY: the driver has one thread, and no voice keeps a reference to the table:
+                // those above were handed another.
                 unsafe { WAV_INTEGRATED_WAVES.lend(bank) };
                 Voice::Terrain(WaveTerrainEngine::new(setup.frames as usize))
             }
@@ -76,6 +110,7 @@ impl<'a> Original<'a> {
                 engine.init(rate);
                 engine.set_user_terrain(self.setup.map.try_into().ok());
             }
+            Voice::Oscillator(plain) => plain.init(),
         }
     }
 
@@ -85,6 +120,7 @@ impl<'a> Original<'a> {
         match &mut self.voice {
             Voice::Wavetable(engine) => engine.set_state(floats),
             Voice::Terrain(engine) => engine.set_state(std::array::from_fn(|i| floats[i])),
+            Voice::Oscillator(plain) => plain.oscillator.set_state(std::array::from_fn(|i| floats[i])),
         }
     }
 
@@ -98,6 +134,7 @@ impl<'a> Original<'a> {
         match &self.voice {
             Voice::Wavetable(engine) => put(&mut words, &engine.state()),
             Voice::Terrain(engine) => put(&mut words, &engine.state()),
+            Voice::Oscillator(plain) => put(&mut words, &plain.oscillator.state()),
         }
         words
     }
@@ -108,6 +145,7 @@ impl<'a> Original<'a> {
         match &mut self.voice {
             Voice::Wavetable(engine) => engine.render(&parameters, out, aux, &mut false),
             Voice::Terrain(engine) => engine.render(&parameters, out, aux, &mut false),
+            Voice::Oscillator(plain) => plain.render(&parameters, out, aux),
         }
     }
 
@@ -152,41 +190,51 @@ pub fn render(setup: Setup, rows: &[u32]) -> Vec<Rendered> {
 /// A whole score into samples, for the benchmark.
 pub fn play<'a>(setup: Setup<'a>, rows: &[u32], out: &mut [f32], aux: &mut [f32]) {
     let rate = setup.rate as f32;
-    let bank = setup.bank.try_into().expect("a whole bank");
-    if setup.instrument == 0 {
-        let mut engine = WavetableEngine::new();
-        engine.set_wavetables(bank);
-        play_rows(engine, |engine| engine.init(rate), setup, rows, out, aux);
-    } else {
-        // SAFETY: as in `Original::new`.
-        unsafe { WAV_INTEGRATED_WAVES.lend(bank) };
-        let engine = WaveTerrainEngine::new(setup.frames as usize);
-        let map = setup.map.try_into().ok();
-        let start = |engine: &mut WaveTerrainEngine<'a>| {
-            engine.init(rate);
-            engine.set_user_terrain(map);
-        };
-        play_rows(engine, start, setup, rows, out, aux);
+    let bank: &'a [i16; model::BANK] = setup.bank.try_into().expect("a whole bank");
+    match setup.instrument {
+        0 => {
+            let mut engine = WavetableEngine::new();
+            engine.set_wavetables(bank);
+            play_rows(engine, |engine| engine.init(rate), render_engine, setup, rows, out, aux);
+        }
+        3 => play_rows(Plain::new(bank), Plain::init, render_plain, setup, rows, out, aux),
+        _ => {
+            // SAFETY: as in `Original::new`.
+            unsafe { WAV_INTEGRATED_WAVES.lend(bank) };
+            let engine = WaveTerrainEngine::new(setup.frames as usize);
+            let map = setup.map.try_into().ok();
+            let start = |engine: &mut WaveTerrainEngine<'a>| {
+                engine.init(rate);
+                engine.set_user_terrain(map);
+            };
+            play_rows(engine, start, render_engine, setup, rows, out, aux);
+        }
     }
 }
 
-fn play_rows<E: Engine>(
-    mut engine: E,
-    start: impl Fn(&mut E),
+fn play_rows<V>(
+    mut voice: V,
+    start: impl Fn(&mut V),
+    render: impl Fn(&mut V, &EngineParameters, &mut [f32], &mut [f32]),
     setup: Setup,
     rows: &[u32],
     out: &mut [f32],
     aux: &mut [f32],
 ) {
     let frames = setup.frames as usize;
-    start(&mut engine);
+    start(&mut voice);
     let samples = out.chunks_mut(frames).zip(aux.chunks_mut(frames));
     for (row, (out, aux)) in rows.chunks(ROW_WORDS).zip(samples) {
         if row[4] == 1 {
-            start(&mut engine);
+            start(&mut voice);
         }
-        called(&mut engine).render(&parameters(setup.rate, row), out, aux, &mut false);
+        render(&mut voice, &parameters(setup.rate, row), out, aux);
     }
+}
+
+/// `render` of an engine.
+fn render_engine<E: Engine>(engine: &mut E, p: &EngineParameters, out: &mut [f32], aux: &mut [f32]) {
+    called(engine).render(p, out, aux, &mut false);
 }
 
 /// The engine as the benchmark calls it: by its type.
@@ -199,4 +247,11 @@ fn called<E: Engine>(engine: &mut E) -> &mut E {
 #[cfg(feature = "trait-object")]
 fn called<'e, E: Engine + 'e>(engine: &'e mut E) -> &'e mut (dyn Engine + 'e) {
     std::hint::black_box(engine)
+}
+
+/// The plain oscillator as the benchmark calls it: inlined. It is no `Engine`, so with the feature
+/// `trait-object` the call goes through a function that is not inlined.
+#[cfg_attr(feature = "trait-object", inline(never))]
+fn render_plain(plain: &mut Plain, p: &EngineParameters, out: &mut [f32], aux: &mut [f32]) {
+    plain.render(p, out, aux);
 }

@@ -1,10 +1,12 @@
-//! Document 01 in plain Rust, frame by frame, written for being read and not for speed.
+//! Document 01 and document 02's third voice (N1) in plain Rust, frame by frame, written for being read
+//! and not for speed.
 //!
 //! It is the judge wherever the original has no answer: holds, kept words, row edits, refusals, the
 //! score text and the program. Elsewhere the comparison holds it to the original, bit for bit.
 //! Only the published tables (sine, pitch ratios) are taken from the original's files.
 
 pub mod floats;
+pub mod oscillator;
 pub mod program;
 pub mod score;
 mod tables;
@@ -21,6 +23,8 @@ pub const ROWS: usize = 4096;
 pub const FRAMES: u32 = 128;
 /// Words kept after each row.
 pub const KEPT_WORDS: usize = 13;
+/// Samples of a wave in the bank: a period of 128, and its first four again.
+pub const WAVE: usize = 132;
 /// Length of the lent bank: 192 waves of 132.
 pub const BANK: usize = 25_344;
 /// Length of the lent map: 64 rows of 64.

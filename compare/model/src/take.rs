@@ -45,7 +45,7 @@ fn refusal_of_lengths(setup: &Setup, rows: &[u32], take: &Take) -> Option<Answer
     let count = rows.len() / ROW_WORDS;
     let samples = count * setup.frames as usize;
     let map = if setup.instrument == 2 { MAP } else { 0 };
-    let number = if setup.instrument > 2 {
+    let number = if setup.instrument > 3 {
         1
     } else if !RATES.contains(&setup.rate) {
         2

@@ -1,6 +1,7 @@
 //! The voice state, its 13 kept words, and the block of a row.
 
 use crate::floats::word;
+use crate::oscillator::Oscillator;
 use crate::terrain::Terrain;
 use crate::wavetable::Wavetable;
 use crate::{KEPT_WORDS, Setup};
@@ -28,6 +29,7 @@ pub struct Holds {
     pub x: u64,
     pub y: u64,
     pub z: u64,
+    pub waveform: u64,
     pub map: u64,
     pub bank: u64,
     pub layer: u64,
@@ -35,7 +37,7 @@ pub struct Holds {
 
 impl Holds {
     pub fn any_counted(&self) -> bool {
-        self.phase + self.x + self.y + self.z + self.map + self.bank > 0
+        self.phase + self.x + self.y + self.z + self.waveform + self.map + self.bank > 0
     }
 
     pub fn any(&self) -> bool {
@@ -47,6 +49,7 @@ impl Holds {
         self.x += other.x;
         self.y += other.y;
         self.z += other.z;
+        self.waveform += other.waveform;
         self.map += other.map;
         self.bank += other.bank;
         self.layer += other.layer;
@@ -73,32 +76,33 @@ impl Block {
 pub enum Voice {
     Wavetable(Wavetable),
     Terrain(Terrain),
+    Oscillator(Oscillator),
 }
 
 impl Voice {
     pub fn fresh(setup: &Setup) -> Voice {
         match setup.instrument {
             0 => Voice::Wavetable(Wavetable::fresh(setup.rate)),
+            3 => Voice::Oscillator(Oscillator::fresh()),
             _ => Voice::Terrain(Terrain::fresh()),
         }
     }
 
-    /// The state of any 13 words. Terrain's last seven are no part of it.
+    /// The state of any 13 words. Terrain's last seven and the oscillator's last six are no part of it.
     pub fn of_kept(instrument: u32, kept: &[u32]) -> Voice {
         let floats: [f32; KEPT_WORDS] = std::array::from_fn(|i| f32::from_bits(kept[i]));
         match instrument {
             0 => Voice::Wavetable(Wavetable::of_floats(floats)),
+            3 => Voice::Oscillator(Oscillator::of_floats(std::array::from_fn(|i| floats[i]))),
             _ => Voice::Terrain(Terrain::of_floats(std::array::from_fn(|i| floats[i]))),
         }
     }
 
     pub fn kept(&self) -> [u32; KEPT_WORDS] {
         match self {
-            Voice::Wavetable(v) => v.floats().map(word),
-            Voice::Terrain(v) => {
-                let floats = v.floats();
-                std::array::from_fn(|i| floats.get(i).map_or(0, |x| word(*x)))
-            }
+            Voice::Wavetable(v) => words_of(&v.floats()),
+            Voice::Terrain(v) => words_of(&v.floats()),
+            Voice::Oscillator(v) => words_of(&v.floats()),
         }
     }
 
@@ -107,6 +111,12 @@ impl Voice {
         match self {
             Voice::Wavetable(v) => v.render(setup, parameters),
             Voice::Terrain(v) => v.render(setup, parameters),
+            Voice::Oscillator(v) => v.render(setup, parameters),
         }
     }
+}
+
+/// The words of a state's floats, and zeros behind them.
+fn words_of(floats: &[f32]) -> [u32; KEPT_WORDS] {
+    std::array::from_fn(|i| floats.get(i).map_or(0, |x| word(*x)))
 }

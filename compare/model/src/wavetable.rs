@@ -1,11 +1,8 @@
 //! "Wavetable voice".
 
-use crate::Setup;
 use crate::floats::{a0, clamp, increment, note_to_frequency, one_pole, part, whole, whole_i32};
 use crate::voice::{Block, Holds, Parameters};
-
-/// Samples of a wave in the bank, the four wrapped ones included.
-const WAVE: u64 = 132;
+use crate::{Setup, WAVE};
 
 /// x, y and z of one kind, in this order.
 type Axes = [f32; 3];
@@ -100,7 +97,7 @@ impl Wavetable {
 
         let corner = |dx: u64, dy: u64, dz: u64| {
             let wave = wave(x.whole + dx, y.whole + dy, fold(z.whole + dz));
-            hermite(bank, wave * WAVE + phase.whole, phase.fraction)
+            hermite(bank, wave as usize * WAVE + phase.whole as usize, phase.fraction)
         };
         let along_x = |dy, dz| mix(corner(0, dy, dz), corner(1, dy, dz), x.fraction);
         let along_y = |dz| mix(along_x(0, dz), along_x(1, dz), y.fraction);
@@ -143,8 +140,7 @@ fn mix(a: f32, b: f32, t: f32) -> f32 {
 }
 
 /// `interpolate_wave_hermite` of the four samples from `at` on.
-fn hermite(bank: &[i16], at: u64, f: f32) -> f32 {
-    let at = at as usize;
+fn hermite(bank: &[i16], at: usize, f: f32) -> f32 {
     let [xm1, x0, x1, x2] = [bank[at], bank[at + 1], bank[at + 2], bank[at + 3]].map(f32::from);
     let c = (x1 - xm1) * 0.5;
     let v = x0 - x1;

@@ -10,6 +10,10 @@ pub fn map() -> Box<[u8; MAP]> {
     Box::new(std::array::from_fn(|i| (i * 31 % 251) as u8))
 }
 
+pub fn instruments(map: &[u8; MAP]) -> [Instrument<'_>; 4] {
+    [Instrument::Wavetable, Instrument::Terrain, Instrument::TerrainWithMap(map), Instrument::Oscillator]
+}
+
 pub fn setup<'a>(instrument: Instrument<'a>, bank: &'a [i16; BANK]) -> Setup<'a> {
     Setup { instrument, rate: 48_000, frames: 24, bank }
 }

@@ -18,9 +18,10 @@
 //!     take OUT AUX KEPT                  after the last edit, where there are edits
 //! OUT, AUX and KEPT are check numbers of all words: h = 0; for each word: h = (65599 h + word) mod 4294967291.
 //!
-//! All scores but the last few are answered by the original: samples and kept words are its own, and
-//! an edit's RENDERED follows from its fresh renderings before and after the edit. The last few hold a
-//! position, where the original panics: they are answered by the model, and have a HELD above 0.
+//! A score in which a position is held, where the original panics, is answered by the model and has a
+//! HELD above 0. All others are answered by the original: samples and kept words are its own, and an
+//! edit's RENDERED follows from its fresh renderings before and after the edit. First come the scores of
+//! the two engines, those that hold last; then the plain oscillator's, in the same order.
 
 use std::fs;
 use std::path::Path;
@@ -36,11 +37,17 @@ use model::{Answer, BANK, MAP, ROW_WORDS};
 const MOST_ROWS: usize = 64;
 const MOST_SAMPLES: usize = 8_192;
 const MOST_EDITS: usize = 8;
-/// Scores answered by the original for each instrument, and all scores answered by the model.
+/// Scores answered by the original for each instrument; scores of the engines and of the oscillator
+/// answered by the model.
 const PER_INSTRUMENT: usize = 12;
 const HOLDING: usize = 6;
+const HOLDING_OSCILLATOR: usize = 4;
 
 type Edit = (usize, [u32; ROW_WORDS]);
+/// Makes so many rows.
+type Rows = fn(&mut Random, usize) -> Vec<u32>;
+/// A fresh rendering, or none.
+type Rendered = fn(&Case) -> Option<Vec<Row>>;
 
 /// A score of the list.
 struct Entry {
@@ -87,7 +94,7 @@ fn by_model(case: &Case) -> Option<Vec<Row>> {
 }
 
 /// What the program prints of a score, if `rendered` has an answer to it and to each edited score.
-fn printed(entry: &Entry, rendered: fn(&Case) -> Option<Vec<Row>>) -> Option<String> {
+fn printed(entry: &Entry, rendered: Rendered) -> Option<String> {
     let mut case = entry.case.clone();
     let mut before = rendered(&case)?;
     let held: u64 = before.iter().map(|r| r.block.held).sum();
@@ -122,12 +129,12 @@ fn edit(random: &mut Random, case: &Case) -> Edit {
     (k, row)
 }
 
-fn entry(random: &mut Random, instrument: u32) -> Entry {
+fn entry(random: &mut Random, instrument: u32, rows: Rows) -> Entry {
     let frames = cases::frames(random);
     let count = 1 + random.below(MOST_ROWS.min(MOST_SAMPLES / frames as usize));
     let seed = random.word();
     let (bank, map) = tables(seed, instrument == 2);
-    let case = Case { instrument, rate: cases::rate(random), frames, bank, map, rows: cases::rows(random, count) };
+    let case = Case { instrument, rate: cases::rate(random), frames, bank, map, rows: rows(random, count) };
     let edits = (0..random.below(MOST_EDITS + 1)).map(|_| edit(random, &case)).collect();
     Entry { case, seed, edits }
 }
@@ -138,6 +145,31 @@ fn climbing() -> Entry {
     let rows = (0..54).flat_map(|_| [0x42f0_0000, 0, 0, 0x3f80_0000, 0]).collect();
     let case = Case { instrument: 0, rate: 48_000, frames: 128, bank, map, rows };
     Entry { case, seed: 1, edits: vec![(53, [0x42f0_0000, 0, 0x3f80_0000, 0x3f80_0000, 0])] }
+}
+
+/// The two rows of 52 frames of which the second holds the oscillator's waveform, and a third in which it stays.
+fn brightest() -> Entry {
+    let (bank, map) = tables(2, false);
+    let row = |timbre| [0x4270_0000, timbre, 0, 0, 0];
+    let rows = [0x3f05_0000, 0x3f80_0000, 0x3f80_0000].map(row).concat();
+    let case = Case { instrument: 3, rate: 48_000, frames: 52, bank, map, rows };
+    Entry { case, seed: 2, edits: vec![(2, row(0x3f00_0000)), (1, [0x4270_0000, 0x3f80_0000, 0x3f80_0000, 0, 0])] }
+}
+
+/// The first random entry that `rendered` has an answer to, and its lines.
+fn answered(random: &mut Random, instrument: u32, rows: Rows, rendered: Rendered) -> (Entry, String) {
+    loop {
+        let entry = entry(random, instrument, rows);
+        if let Some(lines) = printed(&entry, rendered) {
+            return (entry, lines);
+        }
+    }
+}
+
+/// An entry that is known to hold, and its lines.
+fn holding(entry: Entry) -> (Entry, String) {
+    let lines = printed(&entry, by_model).expect("a score that holds");
+    (entry, lines)
 }
 
 fn words(entry: &Entry) -> Vec<u32> {
@@ -158,22 +190,20 @@ fn main() {
     let mut random = Random::new(1);
     let mut list: Vec<(Entry, String)> = Vec::new();
     for instrument in 0..3 {
-        while list.len() < PER_INSTRUMENT * (instrument as usize + 1) {
-            let entry = entry(&mut random, instrument);
-            if let Some(lines) = printed(&entry, by_original) {
-                list.push((entry, lines));
-            }
+        for _ in 0..PER_INSTRUMENT {
+            list.push(answered(&mut random, instrument, cases::rows, by_original));
         }
     }
-    let first = climbing();
-    let lines = printed(&first, by_model).expect("row 53 holds z");
-    list.push((first, lines));
-    while list.len() < 3 * PER_INSTRUMENT + HOLDING {
-        let instrument = 1 + list.len() as u32 % 2;
-        let entry = entry(&mut random, instrument);
-        if let Some(lines) = printed(&entry, by_model) {
-            list.push((entry, lines));
-        }
+    list.push(holding(climbing()));
+    for at in 1..HOLDING {
+        list.push(answered(&mut random, 1 + (at as u32) % 2, cases::rows, by_model));
+    }
+    for _ in 0..PER_INSTRUMENT {
+        list.push(answered(&mut random, 3, cases::rows, by_original));
+    }
+    list.push(holding(brightest()));
+    for _ in 1..HOLDING_OSCILLATOR {
+        list.push(answered(&mut random, 3, cases::brightening_rows, by_model));
     }
 
     let accepted =

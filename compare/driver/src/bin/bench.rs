@@ -3,8 +3,9 @@
 //!
 //! The original is measured at its best: its `render` has one caller, known to the compiler, which then
 //! inlines all of it. With the feature `trait-object` the engine is called through `dyn Engine` instead,
-//! as a host with several engines does, and whole renderings alone are measured. These are two programs,
-//! since in one the second caller would spoil the first.
+//! as a host with several engines does (the plain oscillator, which is no `Engine`, through a function
+//! that is not inlined), and whole renderings alone are measured. These are two programs, since in one
+//! the second caller would spoil the first.
 //!
 //! The original has no reader and no edits. A user of it renders the whole score again, so edits and
 //! reading are set against its whole rendering of the same 4,096 rows.
@@ -18,6 +19,7 @@ use driver::random::Random;
 use model::score::NAMES;
 use wohketa_retake::{BANK, Instrument, MAP, Row, Setup, Take, edit, read_score, render};
 
+const INSTRUMENTS: std::ops::RangeInclusive<u32> = 0..=3;
 const ROWS: usize = 4_096;
 const FRAMES: u32 = 24;
 const RATE: u32 = 48_000;
@@ -46,6 +48,7 @@ impl<'a> Bench<'a> {
     fn setup(&self) -> Setup<'a> {
         let instrument = match (self.number, self.map) {
             (0, _) => Instrument::Wavetable,
+            (3, _) => Instrument::Oscillator,
             (_, None) => Instrument::Terrain,
             (_, Some(map)) => Instrument::TerrainWithMap(map),
         };
@@ -132,14 +135,14 @@ fn main() {
     let noise: [i16; BANK] = std::array::from_fn(|_| random.word() as i16);
     let map: [u8; MAP] = std::array::from_fn(|_| random.word() as u8);
     println!("measurement,library_us,original_us,ratio,first_quartile,third_quartile");
-    for number in 0..3 {
+    for number in INSTRUMENTS {
         Bench::new(number, &noise, &map, &rows).renders("random");
         Bench::new(number, &published, &map, &rows).renders("published");
     }
     if cfg!(feature = "trait-object") {
         return;
     }
-    for number in 0..3 {
+    for number in INSTRUMENTS {
         for stop in STOPS {
             Bench::new(number, &published, &map, &rows).edits(stop);
         }

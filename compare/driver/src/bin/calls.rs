@@ -62,4 +62,6 @@ fn main() {
     play(&wavetable, score, [0x4260_0000, 0x3f40_0000, 0x3e80_0000, 0x3f00_0000, 1]);
     let terrain = Setup { instrument: 2, rate: 44_100, frames: FRAMES, bank: &bank, map: &map };
     play(&terrain, score, [0x4250_0000, 0x3f10_0000, 0x3ec0_0000, 0x3f70_0000, 0]);
+    let oscillator = Setup { instrument: 3, rate: 96_000, frames: FRAMES, bank: &bank, map: &[] };
+    play(&oscillator, score, [0x4220_0000, 0x3e20_0000, 0x3f30_0000, 0x3ea0_0000, 0]);
 }

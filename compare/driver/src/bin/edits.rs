@@ -74,7 +74,11 @@ fn cell(setup: &Setup, scores: fn(&mut Random) -> Vec<Row>, name: usize) -> Stri
 
 fn main() {
     let bank = original::published_bank();
-    let voices = [("wavetable", Instrument::Wavetable), ("terrain", Instrument::Terrain)];
+    let voices = [
+        ("wavetable", Instrument::Wavetable),
+        ("terrain", Instrument::Terrain),
+        ("oscillator", Instrument::Oscillator),
+    ];
     let kinds: [(&str, fn(&mut Random) -> Vec<Row>); 3] =
         [("random rows", random_rows), ("slow curves", slow_curves), ("constant rows", constant_rows)];
     println!("quartiles of the rows rendered; in brackets the edits of {SCORES} that went to the end");
@@ -82,7 +86,7 @@ fn main() {
     for (voice, _) in voices {
         kinds.iter().for_each(|(kind, _)| print!(" {voice}, {kind} |"));
     }
-    println!("\n|---|---|---|---|---|---|---|");
+    println!("\n|---{}|", "|---".repeat(voices.len() * kinds.len()));
     for (name, column) in ["note", "timbre", "morph", "harmonics"].into_iter().enumerate() {
         print!("| {column} |");
         for (_, instrument) in voices {

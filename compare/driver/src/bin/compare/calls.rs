@@ -1,8 +1,8 @@
 //! The library's rendering and edit beside the model's: accepted and refused, on rendered and junk takes.
 
 use driver::cases::{self, Case};
-use driver::library;
 use driver::random::Random;
+use driver::{library, original};
 use model::take::{self, Row, demand_3, fresh};
 use model::{Answer, KEPT_WORDS, ROW_WORDS, Take};
 
@@ -39,6 +39,7 @@ pub fn library_is_fresh(case: &Case, fresh: &[Row], mut lent: Take, tally: &mut 
     tally.add("fresh: samples of the library, equal to the same (out and aux)", 2 * lent.out.len() as u64);
 }
 
+/// The expected words are those that a take begins with.
 fn same_take(what: &str, case: &Case, found: &Take, expected: &Take) {
     let pairs =
         [("out", &found.out, &expected.out), ("aux", &found.aux, &expected.aux), ("kept", &found.kept, &expected.kept)];
@@ -124,6 +125,20 @@ pub fn edits(mut case: Case, random: &mut Random, tally: &mut Tally) {
     library::render(&case.setup(), &case.rows, &mut again);
     same_take("fresh rendering after the edits", &case, &found, &again);
     tally.add("edit: lists equal to a fresh rendering", 1);
+    edited_is_original(&case, &found, tally);
+}
+
+/// The take after a list of edits beside the original's rendering of the score as it then stands, up to
+/// the row in which the original panics.
+fn edited_is_original(case: &Case, found: &Take, tally: &mut Tally) {
+    let rows = original::render(case.setup(), &case.rows);
+    let expected = Take {
+        out: rows.iter().flat_map(|r| r.out.clone()).collect(),
+        aux: rows.iter().flat_map(|r| r.aux.clone()).collect(),
+        kept: rows.iter().flat_map(|r| r.kept).collect(),
+    };
+    same_take("the take after the edits and the original", case, found, &expected);
+    tally.add("edit: rows equal to the original after a list", rows.len() as u64);
 }
 
 /// Edits of a take with junk in it, word by word beside the model.

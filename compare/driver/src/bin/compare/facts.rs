@@ -15,7 +15,7 @@ fn steady(count: usize, row: [u32; ROW_WORDS]) -> Vec<u32> {
 }
 
 /// The smallest scores found in whose last row the original panics: instrument, frames, `held`, rows.
-fn smallest_holds() -> [(u32, u32, u64, Vec<u32>); 4] {
+fn smallest_holds() -> [(u32, u32, u64, Vec<u32>); 5] {
     const ONE: u32 = 0x3f80_0000;
     const NOTE_120: u32 = 0x42f0_0000;
     let climbing = [NOTE_120, 0, 0, ONE, 0];
@@ -36,6 +36,7 @@ fn smallest_holds() -> [(u32, u32, u64, Vec<u32>); 4] {
         (0, 10, 10, steady(65, climbing)),
         (2, 1, 1, map.concat()),
         (1, 2, 1, bank.concat()),
+        (3, 52, 1, [[0x4270_0000, 0x3f05_0000, 0, 0, 0], [0x4270_0000, ONE, 0, 0, 0]].concat()),
     ]
 }
 
@@ -64,8 +65,32 @@ pub fn facts(published: &[i16], random: &mut Random, tally: &mut Tally) {
         rendering(&case, case.junk_take(random), tally);
     }
 
+    // The oscillator's waveform comes to 63 and stays there as long as the rows do.
+    let mut case = plain(3, 100, steady(5, [0x4270_0000, 0x3f80_0000, 0, 0, 0]));
+    case.rows[1] = 0x3f40_0000;
+    let rows = model_is_original(&case, tally);
+    let held: Vec<u64> = rows.iter().map(|r| r.block.held).collect();
+    same("held of a waveform that stays", &case, &held[..], &[0, 1, 100, 100, 100]);
+    rendering(&case, case.junk_take(random), tally);
+
+    // On a flat wave the oscillator's sample sinks to -0; out, which starts at zero, then has +0.
+    let mut case = plain(3, 128, steady(20, [0x41c0_0000, 0, 0, 0, 0]));
+    case.bank.fill(-1000);
+    let rows = model_is_original(&case, tally);
+    same("the last sample and lp", &case, [rows[19].block.out[127], rows[19].kept[4] >> 31], [0, 1]);
+    rendering(&case, case.junk_take(random), tally);
+
+    // The oscillator takes no map, and there is no instrument behind it.
+    for (instrument, number) in [(3, 5), (4, 1)] {
+        let mut case = plain(instrument, 24, steady(1, [0x4270_0000, 0, 0, 0, 0]));
+        case.map = vec![128; model::MAP];
+        let answer = library::render(&case.setup(), &case.rows, &mut case.junk_take(random));
+        same("refusal of a map, of an instrument", &case, answer, Answer::Refused(number, 0));
+        rendering(&case, case.junk_take(random), tally);
+    }
+
     // The largest scores.
-    for instrument in 0..3 {
+    for instrument in 0..4 {
         let case = plain(instrument, model::FRAMES, cases::usual_rows(random, model::ROWS, 1000));
         model_is_original(&case, tally);
         rendering(&case, case.junk_take(random), tally);
@@ -79,6 +104,11 @@ pub fn facts(published: &[i16], random: &mut Random, tally: &mut Tally) {
         (0, &note, 4, [0x4270_0000, 0x8000_0000, 0, 0, 0]),
         (0, &note, 0, [0x4270_0000, 0, 0, 0, 1]),
         (1, &high, 4, [0x4270_0000, 0, 0, 0x3f80_0000, 0]),
+        (3, &note, 4, [0x4270_0001, 0, 0, 0, 0]),
+        (3, &note, 4, [0x4270_0000, 0x8000_0000, 0, 0, 0]),
+        (3, &note, 4, [0x4270_0000, 0, 0x3f00_0000, 0, 0]),
+        (3, &note, 4, [0x4270_0000, 0, 0, 0x3f80_0000, 0]),
+        (3, &note, 0, [0x4270_0000, 0, 0, 0, 1]),
     ] {
         let mut case = plain(instrument, 24, rows.clone());
         let mut take = case.junk_take(random);

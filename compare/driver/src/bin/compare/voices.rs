@@ -5,7 +5,7 @@ use driver::original::{self, Original};
 use driver::random::Random;
 use model::ROW_WORDS;
 use model::take::{Row, fresh};
-use model::voice::Voice;
+use model::voice::{Holds, Voice};
 
 use crate::tally::{Tally, fail, same};
 
@@ -31,6 +31,8 @@ pub fn model_is_original(case: &Case, tally: &mut Tally) -> Vec<Row> {
         let holds = row.block.holds;
         let kind = if holds.z > 0 {
             "level z"
+        } else if holds.waveform > 0 {
+            "waveform"
         } else if holds.map > 0 {
             "map"
         } else {
@@ -45,7 +47,8 @@ pub fn model_is_original(case: &Case, tally: &mut Tally) -> Vec<Row> {
 }
 
 /// One row from any 13 words. The original has an answer of its own where x, y or the phase leaves
-/// its range and where the layer is above the last (height 0): document 01 decides there.
+/// its range and where the layer is above the last (height 0): document 01 decides there, and document
+/// 02 on the oscillator's phase, which the original reads on for as long as its wave goes on.
 pub fn model_is_original_on_any_state(case: &Case, random: &mut Random, tally: &mut Tally) {
     let kept = cases::odd_state(random, case.instrument);
     let row = &case.rows[..ROW_WORDS];
@@ -63,10 +66,15 @@ pub fn model_is_original_on_any_state(case: &Case, random: &mut Random, tally: &
             tally.add("any state: blocks equal to the original", 1);
         }
         None if block.holds.any() => tally.add("any state: blocks held, the original panics", 1),
-        Some(_) if block.holds.layer > 0 || block.holds.z + block.holds.map + block.holds.bank == 0 => {
+        Some(_) if block.holds.layer > 0 || !always_panics(&block.holds) => {
             tally.add("any state: blocks held at x, y, phase or layer, the original reads on", 1);
         }
         Some(_) => fail(&format!("{what}: the model holds {:?}, the original goes on", block.holds), case),
         None => fail(&format!("{what}: the original panics, the model holds nothing"), case),
     }
+}
+
+/// Did the block hold something of which the original has no reading?
+fn always_panics(holds: &Holds) -> bool {
+    holds.z + holds.waveform + holds.map + holds.bank > 0
 }
