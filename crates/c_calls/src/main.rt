@@ -240,4 +240,6 @@ fn main() {
     play(0, 48000, &bank, &map[..0], row);
     let row = [0x42500000, 0x3f100000, 0x3ec00000, 0x3f700000, 0];
     play(2, 44100, &bank, &map, row);
+    let row = [0x42200000, 0x3e200000, 0x3f300000, 0x3ea00000, 0];
+    play(3, 96000, &bank, &map[..0], row);
 }

@@ -1,3 +1,4 @@
--- What the proofs of this crate share.
+-- What the proofs of this crate share, and bench values.
 mod Going
 mod Composed
+pub mod Bench
