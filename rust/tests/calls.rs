@@ -45,7 +45,7 @@ fn lines_of(text: &str, name: &str) -> Vec<Vec<u32>> {
     text.lines().filter(|line| line.split(' ').next() == Some(name)).map(words).collect()
 }
 
-/// What the program `c_calls` must print has the model's words for two renderings and an edit of each.
+/// What the program `c_calls` must print has the model's words for three renderings and an edit of each.
 #[test]
 fn samples_and_kept_words_are_the_models() {
     let answers = include_str!("../../crates/c_calls/stdout");
@@ -54,11 +54,13 @@ fn samples_and_kept_words_are_the_models() {
     let bank: Box<[i16; BANK]> = Box::new(std::array::from_fn(|i| (i * 7919 % 32749) as i16));
     let wavetable = Setup { instrument: Instrument::Wavetable, rate: 48_000, frames: 4, bank: &bank };
     let terrain = Setup { instrument: Instrument::TerrainWithMap(&[90; MAP]), rate: 44_100, ..wavetable };
+    let oscillator = Setup { instrument: Instrument::Oscillator, rate: 96_000, ..wavetable };
     let rows = [
         Row { note: 56.0, timbre: 0.75, morph: 0.25, harmonics: 0.5, restart: true },
         Row { note: 52.0, timbre: 0.5625, morph: 0.375, harmonics: 0.9375, restart: false },
+        Row { note: 40.0, timbre: 0.15625, morph: 0.6875, harmonics: 0.3125, restart: false },
     ];
-    for (at, (setup, row)) in [wavetable, terrain].into_iter().zip(rows).enumerate() {
+    for (at, (setup, row)) in [wavetable, terrain, oscillator].into_iter().zip(rows).enumerate() {
         let (mut score, mut take) = (score.to_vec(), Take::new(3, 4));
         render(&setup, &score, &mut take).unwrap();
         assert_eq!([&take.out, &take.aux, &take.kept], [&out[4 * at], &aux[4 * at], &kept[4 * at]]);
