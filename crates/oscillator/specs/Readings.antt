@@ -1,4 +1,5 @@
--- Document 01, "Interpolators and differentiator" (`wavetable_oscillator.rs`), and `interpolate_integrated_wave` of `wave_terrain_engine.rs`.
+-- Document 01, "Interpolators and differentiator" (`wavetable_oscillator.rs`), and `interpolate_integrated_wave` of `wave_terrain_engine.rs`; before
+-- them the two lines on phase and coefficient that the wavetable voice and the plain oscillator have alike.
 -- The readings are over any element that has a float; `none` is what stands past a table's end, where nothing reads.
 use Prim.Native.Nat.{ℕ, _+_}
 use mathlib.Core.Bool.{cond}
@@ -16,7 +17,7 @@ use Rattle.oscillator.specs.declared.wavetable_oscillator.Differentiated
 abbrev pub advanced : Float → Float → Float
 advanced phase f0 = cond (le (decimal 1 0) (phase ⊕ f0)) (phase ⊕ f0 ⊖ decimal 1 0) (phase ⊕ f0)
 
--- The differentiator's coefficient: `f32::min(128.0 * f0, 1.0)`.
+-- The coefficient of the filters that a reading goes through: `f32::min(TABLE_SIZE_F * f0, 1.0)`.
 unfoldable pub cutoffOf : Float → Float
 cutoffOf f0 = minOf (tableSizeF ⊗ f0) (decimal 1 0)
 

@@ -1,4 +1,4 @@
-// Integrated wavetable synthesis: the differentiator and the readings of a table.
+// Integrated wavetable synthesis: what the voices that read waves share, phase and coefficient, the differentiator, and the readings of a table.
 // Based on MIT-licensed code (c) 2016 by Emilie Gillet (emilie.o.gillet@gmail.com)
 ghost use mathlib.Core.Path.{_≡_};
 ghost use Prim.Native.Nat.{_+_, _<_};
@@ -15,7 +15,7 @@ pub fn advance(phase: f32, f0: f32) -> f32
     if next >= 1.0 { next - 1.0 } else { next }
 }
 
-// The differentiator's coefficient.
+// The coefficient of the filters that a reading goes through.
 pub fn cutoff(f0: f32) -> f32
     ensures { λ r. ⌜ r ≡ cutoffOf f0 ⌝ }
 {

@@ -106,3 +106,11 @@ module _ {A : Type 0} (f : ℕ → A) (d : A) where
   -- a list that is filled to its end
   pub filled-all : (xs ys : List A) → length ys ≡ length xs → ((j : ℕ) → j < length xs → getD ys j d ≡ f j) → Filled f d xs (length xs) → xs ≡ ys
   filled-all xs ys e h p = ext-getD d xs ys (sym e) (λ j l. p .done j l ∙ sym (h j l))
+
+-- a list with an entry for each frame, made from what is said of its number
+pub filled-each : {S A B : Type 0} (next : S → S) (word : B → A) (d : A) (v : ℕ → B) (g : S → B) (xs : List A) (n : ℕ) (s : S)
+    → length xs ≡ n → ((j : ℕ) → j < n → v j ≡ g (stateAfter next j s)) → Filled (λ j. word (v j)) d xs n → xs ≡ eachOf next (λ t. word (g t)) n s
+filled-each next word d v g xs n s e same p =
+    filled-all _ d xs (eachOf next (λ t. word (g t)) n s) (each-length next _ n s ∙ sym e)
+    (λ j h. let l : j < n = omega arith in each-at next _ d n s j l ∙ ap word (sym (same j l)))
+    (rw e p)

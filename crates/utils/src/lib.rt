@@ -1,4 +1,4 @@
-// Utility functions: the source's `utils`, with what both engines share of `engine/mod.rs`.
+// Utility functions: the source's `utils`, with what the voices share of `engine/mod.rs`.
 ghost use mathlib.Core.Path.{_≡_};
 ghost use Prim.Native.Nat.{_≤_};
 ghost use lib.ListN.{length};

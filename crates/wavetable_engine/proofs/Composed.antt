@@ -10,7 +10,7 @@ use Rattle.utils.specs.Holds.{total, AtMost}
 use Rattle.utils.specs.Frames.{stateAfter, eachOf, sumOf, Filled}
 use Rattle.utils.specs.Rendered.{Renders}
 use Rattle.utils.proofs.Sums.{most-more}
-use Rattle.utils.proofs.Frames.{after-suc, each-length, each-at, sum-most, part-after, part-each, filled-all}
+use Rattle.utils.proofs.Frames.{after-suc, sum-most, part-after, part-each, filled-each}
 use Rattle.oscillator.specs.declared.wavetable_oscillator.Differentiator.{Differentiator}
 use Rattle.utils.specs.declared.engine.EngineParameters.{EngineParameters}
 use Rattle.wavetable_engine.specs.declared.WavetableEngine.{WavetableEngine}
@@ -92,14 +92,6 @@ module _ (bank : List ℤ) (lp : Float) (start : Frame) where
         corners-by-key bank (partsOf (moved lp (at j .positions))) (parts-fit _ _ refl),
       )
 
-  -- a list of words, one a frame
-  pub words-are : (size : ℕ) (f : Float → Float) (g : Frame → Float) (samples : List Float) (out : List ℕ) → length out ≡ size
-      → ((j : ℕ) → j < size → f (getD samples j nan) ≡ g (at j)) → Filled (λ j. toBits binary32 (f (getD samples j nan))) 0 out size → out ≡ eachOf next (λ s. toBits binary32 (g s)) size start
-  words-are size f g samples out e same p =
-      filled-all _ 0 out (eachOf next (λ s. toBits binary32 (g s)) size start) (each-length next _ size start ∙ sym e)
-      (λ j h. let l : j < size = omega arith in each-at next _ 0 size start j l ∙ ap (toBits binary32) (sym (same j l)))
-      (rw e p)
-
 -- What the stages of a block leave behind them.
 pub record Staged (bank : List ℤ) (size : ℕ) (m : SetUp) (d₀ : Differentiator) (r : Walked) (d : Differentiator) (out aux : List ℕ) : Type 0 where
   pub keys : List ℕ
@@ -144,11 +136,11 @@ module _ (bank : List ℤ) (high low : List Float) (size : ℕ) (parameters : En
 
     out-is : out ≡ rendered bank high low size parameters s .out
     unfolding rendered
-    out-is = words-are bank lp start size (λ x. x) (λ f. framed bank lp f .out) (g .samples) out (g .out-long) sample-is (g .out-are)
+    out-is = filled-each _ (toBits binary32) 0 _ (λ f. framed bank lp f .out) out size start (g .out-long) sample-is (g .out-are)
 
     aux-is : aux ≡ rendered bank high low size parameters s .aux
     unfolding rendered framed
-    aux-is = words-are bank lp start size lofi (λ f. lofi (framed bank lp f .out)) (g .samples) aux (g .aux-long) (λ j h. ap lofi (sample-is j h)) (g .aux-are)
+    aux-is = filled-each _ (toBits binary32) 0 _ (λ f. lofi (framed bank lp f .out)) aux size start (g .aux-long) (λ j h. ap lofi (sample-is j h)) (g .aux-are)
 
     holds-are : r .holds ≡ rendered bank high low size parameters s .holds
     unfolding rendered

@@ -7,26 +7,26 @@ use native.Mathlib.Nat.{mul-le-mul-right}
 use native.Mathlib.Omega.{arith}
 use lib.IntN.{ℤ, pos}
 use lib.ListN.{length, getD}
-use lib.Seq.{getD-drop}
 use lib.Ieee.{Float, nan, binary32, toBits}
 use Rattle.words.specs.Binary32.{_⊗_, decimal}
 use Rattle.words.specs.Parts.{partOf}
 use Rattle.words.specs.declared.Part.{Part}
 use Rattle.words.proofs.Parts.{held-most}
 use Rattle.utils.specs.Holds.{AtMost}
-use Rattle.utils.specs.Frames.{stateAfter, eachOf, Filled}
+use Rattle.utils.specs.Frames.{stateAfter, Filled}
 use Rattle.utils.specs.Rendered.{mostHolds, Renders}
 use Rattle.utils.specs.declared.holds.Holds.{Holds}
 use Rattle.utils.specs.declared.engine.EngineParameters.{EngineParameters}
 use Rattle.utils.proofs.Sums.{most-more, most-frame}
-use Rattle.utils.proofs.Frames.{after-suc, each-length, each-at, sum-most, part-after, count-frames, filled-all}
+use Rattle.utils.proofs.Frames.{after-suc, sum-most, part-after, count-frames, filled-each}
 use Rattle.oscillator.specs.Bank.{waveLength, tableSizeF, phaseTop}
-use Rattle.oscillator.specs.Readings.{cutoffOf, interpolateWave, floatOfI16}
+use Rattle.oscillator.specs.Readings.{cutoffOf, floatOfI16}
+use Rattle.oscillator.proofs.Readings.{wave-part}
 use Rattle.wavetable_oscillator.specs.declared.WavetableOscillator.{WavetableOscillator}
 use Rattle.wavetable_oscillator.specs.declared.frames.Positions.{Positions}
 use Rattle.wavetable_oscillator.specs.declared.frames.Filters.{Filters}
-use Rattle.wavetable_oscillator.specs.Oscillator.{waveformTop, targetsOf, begun, moved, waveformPart, phasePart, holdsOf, readWave, reading, filtered, Frame, framed, rendered}
-use Rattle.wavetable_oscillator.specs.Stages.{positionsAt, WalkedBy, partAt, keyOf, PartedBy, KeysFit, readingAt, filtering, read, FilteredBy, sampleOf}
+use Rattle.wavetable_oscillator.specs.Oscillator.{waveformTop, targetsOf, begun, moved, waveformPart, phasePart, readWave, reading, filtered, sampleOf, Frame, framed, rendered}
+use Rattle.wavetable_oscillator.specs.Stages.{positionsAt, WalkedBy, partAt, keyOf, PartedBy, KeysFit, readingAt, filtering, read, FilteredBy}
 
 -- a key of parts fits
 key-fits : (x y : Float) → keyOf (partOf waveformTop x) (partOf phaseTop y) ≤ waveformTop * waveLength + phaseTop
@@ -39,19 +39,16 @@ pub keys-fit : (phases₀ waveforms₀ : List Float) (size : ℕ) (holds : Holds
 keys-fit phases₀ waveforms₀ size holds phases waveforms keys p =
     record { each-fits = λ j h. rw (p .keys-are .done j h) (key-fits (getD waveforms₀ j nan) (getD phases₀ j nan)) }
 
--- an entry of a wave is the bank's, as far behind the wave's start
-wave-at : (bank : List ℤ) (wave : ℕ) (p : Part) → readWave bank wave p ≡ interpolateWave floatOfI16 (pos 0) bank (wave * waveLength + p .whole) (p .fraction)
-unfolding readWave interpolateWave
-wave-at bank wave p =
-    let on : wave * waveLength + (p .whole + 1) ≡ wave * waveLength + p .whole + 1 = omega arith in
-    rw (getD-drop (wave * waveLength) bank (p .whole) (pos 0), getD-drop (wave * waveLength) bank (p .whole + 1) (pos 0), on)
-
 -- the reading by a key is that of its wave and the next
 reading-by-key : (bank : List ℤ) (w p : Part) → readingAt bank (keyOf w p) (p .fraction) (w .fraction) ≡ reading bank w p
-unfolding readingAt reading
+unfolding readingAt reading readWave
 reading-by-key bank w p =
     let on : (w .whole + 1) * waveLength + p .whole ≡ w .whole * waveLength + p .whole + waveLength = omega arith in
-    rw (wave-at bank (w .whole) p, wave-at bank (w .whole + 1) p, on)
+    rw (
+      wave-part floatOfI16 (pos 0) bank (w .whole * waveLength) (p .whole) (p .fraction),
+      wave-part floatOfI16 (pos 0) bank ((w .whole + 1) * waveLength) (p .whole) (p .fraction),
+      on,
+    )
 
 module _ (bank : List ℤ) (start : Frame) where
   abbrev next : Frame → Frame
@@ -85,14 +82,6 @@ module _ (bank : List ℤ) (start : Frame) where
     filtering-after (suc j) h =
         rw (same-cutoff j (omega arith), same-reading j (omega arith), filtering-after j (omega arith))
         (filters-on (at j) ∙ ap (λ (f : Frame). f .filters) (sym (after-suc next j start)))
-
-  -- a list of words, one a frame
-  words-are : (size : ℕ) (v : ℕ → Float) (g : Frame → Float) (out : List ℕ) → length out ≡ size
-      → ((j : ℕ) → j < size → v j ≡ g (at j)) → Filled (λ j. toBits binary32 (v j)) 0 out size → out ≡ eachOf next (λ s. toBits binary32 (g s)) size start
-  words-are size v g out e same p =
-      filled-all _ 0 out (eachOf next (λ s. toBits binary32 (g s)) size start) (each-length next _ size start ∙ sym e)
-      (λ j h. let l : j < size = omega arith in each-at next _ 0 size start j l ∙ ap (toBits binary32) (sym (same j l)))
-      (rw e p)
 
 -- What the stages of a block leave behind them.
 pub record Staged (bank : List ℤ) (size : ℕ) (start : Frame) (end : Positions) (holds : Holds) (last : Filters) (out aux : List ℕ) : Type 0 where
@@ -179,11 +168,11 @@ module _ (bank : List ℤ) (high low : List Float) (size : ℕ) (parameters : En
 
     out-is : out ≡ rendered bank high low size parameters s .out
     unfolding rendered
-    out-is = words-are bank begin size _ (λ f. framed bank f .out) out (g .out-long) sample-is (g .out-are)
+    out-is = filled-each _ (toBits binary32) 0 _ (λ f. framed bank f .out) out size begin (g .out-long) sample-is (g .out-are)
 
     aux-is : aux ≡ rendered bank high low size parameters s .aux
-    unfolding rendered
-    aux-is = words-are bank begin size _ (λ f. decimal 0 0) aux (g .aux-long) (λ j h. refl) (g .aux-are)
+    unfolding rendered framed
+    aux-is = filled-each _ (toBits binary32) 0 _ (λ f. framed bank f .aux) aux size begin (g .aux-long) (λ j h. refl) (g .aux-are)
 
     state-is : left ≡ rendered bank high low size parameters s .state
     unfolding rendered

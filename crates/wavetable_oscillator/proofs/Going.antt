@@ -1,28 +1,26 @@
 -- The three loops that carry something go on: what they carry and the lists that they fill are those of one more frame.
-use mathlib.Core.Path.{_≡_, refl, sym, ap, _∙_, subst}
+use mathlib.Core.Path.{_≡_, refl, ap, _∙_, subst}
 use mathlib.Core.Bool.{Bool, true, false, cond, _||_}
 use mathlib.Core.List.{List}
-use Prim.Native.Nat.{ℕ, suc, _+_, _*_, _≤_, _<_}
+use Prim.Native.Nat.{ℕ, suc, _+_, _≤_, _<_}
 use native.Mathlib.Numerals.{add-one}
 use native.Mathlib.Omega.{arith}
-use lib.IntN.{ℤ}
-use lib.ListN.{length, getD, set}
+use lib.ListN.{length, set}
 use lib.Ieee.{Float, nan}
 use Rattle.words.specs.Binary32.{_⊗_}
 use Rattle.words.specs.Parts.{partOf}
 use Rattle.words.specs.declared.Part.{Part}
-use Rattle.words.proofs.Parts.{held-most}
-use Rattle.utils.specs.Holds.{none, ofFrame, plus}
-use Rattle.utils.specs.Frames.{stateAfter, sumOf, Filled}
+use Rattle.utils.specs.Holds.{ofFrame, plus}
+use Rattle.utils.specs.Frames.{stateAfter, sumOf}
 use Rattle.utils.specs.declared.holds.Holds.{Holds}
 use Rattle.utils.proofs.Frames.{after-more, count-none, count-more}
-use Rattle.oscillator.specs.Bank.{waveLength, tableSizeF, phaseTop}
+use Rattle.oscillator.specs.Bank.{tableSizeF, phaseTop}
 use Rattle.oscillator.specs.Readings.{cutoffOf}
 use Rattle.oscillator.proofs.Runs.{Filling, filling-none, filling-more, filling-next}
 use Rattle.wavetable_oscillator.specs.declared.frames.Positions.{Positions}
 use Rattle.wavetable_oscillator.specs.declared.frames.Filters.{Filters}
 use Rattle.wavetable_oscillator.specs.Oscillator.{waveformTop, moved, holdsOf, filtered}
-use Rattle.wavetable_oscillator.specs.Stages.{positionsAt, WalkedBy, partAt, keyOf, PartedBy, KeysFit, filtering, FilteredBy}
+use Rattle.wavetable_oscillator.specs.Stages.{positionsAt, WalkedBy, partAt, keyOf, PartedBy, filtering}
 
 -- ---- the walk
 pub record Walking (start : Positions) (phases₀ waveforms₀ cutoffs₀ amplitudes₀ phases waveforms cutoffs amplitudes : List Float) (s : Positions) (i : ℕ) : Type 0 where

@@ -83,12 +83,14 @@ holdsOf waveform phase = ofFrame (waveform .held || phase .held)
 unfoldable pub readWave : List ℤ → ℕ → Part → Float
 readWave bank wave phase = interpolateWave floatOfI16 (pos 0) (drop (wave * waveLength) bank) (phase .whole) (phase .fraction)
 
--- What goes to the differentiator: between two waves. `scale` is 1.0, as `approximate_scale` is true.
+-- Between two waves. `scale` is 1.0, as `approximate_scale` is true.
+abbrev pub between : Float → Float → Float → Float
+between x0 x1 fractional = (x0 ⊕ (x1 ⊖ x0) ⊗ fractional) ⊗ decimal 1 0
+
+-- What goes to the differentiator.
 unfoldable pub reading : List ℤ → Part → Part → Float
 reading bank waveform phase =
-    let x0 = readWave bank (waveform .whole) phase in
-    let x1 = readWave bank (waveform .whole + 1) phase in
-    (x0 ⊕ (x1 ⊖ x0) ⊗ waveform .fraction) ⊗ decimal 1 0
+    between (readWave bank (waveform .whole) phase) (readWave bank (waveform .whole + 1) phase) (waveform .fraction)
 
 -- The differentiator and the low-pass filter behind it, one frame on.
 unfoldable pub filtered : Float → Float → Filters → Filters
@@ -105,9 +107,14 @@ pub record Frame : Type 0 where
 pub record Framed : Type 0 where
   pub next : Frame
   pub out : Float
+  pub aux : Float
   pub holds : Holds
 
--- A frame. "Out starts at zero before its `render` adds to it".
+-- "Out starts at zero before its `render` adds to it".
+abbrev pub sampleOf : Float → Float → Float
+sampleOf amplitude lp = decimal 0 0 ⊕ amplitude ⊗ lp
+
+-- A frame. "aux is +0".
 unfoldable pub framed : List ℤ → Frame → Framed
 framed bank s =
     let positions = moved (s .positions) in
@@ -117,21 +124,19 @@ framed bank s =
     let filters = filtered (cutoffOf f0) (reading bank waveform phase) (s .filters) in
     record {
       next = record { positions = positions; filters = filters };
-      out = decimal 0 0 ⊕ positions .«amplitude_modulation» .value ⊗ filters .lp;
+      out = sampleOf (positions .«amplitude_modulation» .value) (filters .lp);
+      aux = decimal 0 0;
       holds = holdsOf waveform phase;
     }
 
 -- ---- a block
 
--- `render`: a block of `size` frames. The interpolators' end values go back to the state. "aux is +0".
+-- `render`: a block of `size` frames. The interpolators' end values go back to the state.
 unfoldable pub rendered : List ℤ → List Float → List Float → ℕ → EngineParameters → WavetableOscillator → Rendered WavetableOscillator
 rendered bank high low size parameters s =
     let next : Frame → Frame = λ f. framed bank f .next in
-    let start : Frame =
-    record {
-      positions = begun size (targetsOf high low parameters) s;
-      filters = record { lp = s .lp; differentiator = s .differentiator };
-    } in
+    let filters : Filters = record { lp = s .lp; differentiator = s .differentiator } in
+    let start : Frame = record { positions = begun size (targetsOf high low parameters) s; filters = filters } in
     let end = stateAfter next size start in
     record {
       state =
@@ -144,7 +149,7 @@ rendered bank high low size parameters s =
             differentiator = end .filters .differentiator;
           };
       out = eachOf next (λ f. toBits binary32 (framed bank f .out)) size start;
-      aux = eachOf next (λ f. toBits binary32 (decimal 0 0)) size start;
+      aux = eachOf next (λ f. toBits binary32 (framed bank f .aux)) size start;
       holds = sumOf next (λ f. framed bank f .holds) size start;
     }
 

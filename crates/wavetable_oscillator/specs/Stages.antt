@@ -5,7 +5,7 @@ use mathlib.Core.List.{List}
 use lib.IntN.{ℤ, pos}
 use lib.ListN.{getD}
 use lib.Ieee.{Float, nan}
-use Rattle.words.specs.Binary32.{_⊕_, _⊖_, _⊗_, decimal}
+use Rattle.words.specs.Binary32.{_⊗_}
 use Rattle.words.specs.Parts.{partOf}
 use Rattle.words.specs.declared.Part.{Part}
 use Rattle.utils.specs.Frames.{stateAfter, sumOf, Filled}
@@ -14,7 +14,7 @@ use Rattle.oscillator.specs.Bank.{waveLength, tableSizeF, phaseTop}
 use Rattle.oscillator.specs.Readings.{cutoffOf, interpolateWave, floatOfI16}
 use Rattle.wavetable_oscillator.specs.declared.frames.Positions.{Positions}
 use Rattle.wavetable_oscillator.specs.declared.frames.Filters.{Filters}
-use Rattle.wavetable_oscillator.specs.Oscillator.{waveformTop, moved, holdsOf, filtered}
+use Rattle.wavetable_oscillator.specs.Oscillator.{waveformTop, moved, holdsOf, between, filtered}
 
 -- ---- the walk
 
@@ -56,9 +56,7 @@ pub record KeysFit (keys : List ℕ) (size : ℕ) : Type 0 where
 -- The reading by a key and the two fractions.
 unfoldable pub readingAt : List ℤ → ℕ → Float → Float → Float
 readingAt bank key phase waveform =
-    let x0 = interpolateWave floatOfI16 (pos 0) bank key phase in
-    let x1 = interpolateWave floatOfI16 (pos 0) bank (key + waveLength) phase in
-    (x0 ⊕ (x1 ⊖ x0) ⊗ waveform) ⊗ decimal 1 0
+    between (interpolateWave floatOfI16 (pos 0) bank key phase) (interpolateWave floatOfI16 (pos 0) bank (key + waveLength) phase) waveform
 
 -- The filters after j frames, by each frame's coefficient and reading.
 unfoldable pub filtering : (ℕ → Float) → (ℕ → Float) → ℕ → Filters → Filters
@@ -73,9 +71,3 @@ read bank keys phases waveforms j = readingAt bank (getD keys j 0) (getD phases 
 pub record FilteredBy (bank : List ℤ) (keys : List ℕ) (phases waveforms cutoffs : List Float) (start : Filters) (size : ℕ) (end : Filters) (lps : List Float) : Type 0 where
   pub end-is : end ≡ filtering (λ j. getD cutoffs j nan) (read bank keys phases waveforms) size start
   pub lps-are : Filled (λ j. filtering (λ j. getD cutoffs j nan) (read bank keys phases waveforms) (suc j) start .lp) nan lps size
-
--- ---- the words
-
--- A frame's sample.
-abbrev pub sampleOf : Float → Float → Float
-sampleOf amplitude lp = decimal 0 0 ⊕ amplitude ⊗ lp

@@ -1,15 +1,15 @@
 // What goes from frame to frame: the positions, the filters, and the words.
 ghost use mathlib.Core.Path.{_≡_};
-ghost use Prim.Native.Nat.{_+_, _*_, _≤_, _<_};
+ghost use Prim.Native.Nat.{_+_, _*_, _≤_};
 ghost use mathlib.Core.Bool.{cond};
 ghost use lib.ListN.{length, getD};
 ghost use lib.Ieee.{nan, binary32, toBits};
-ghost use Rattle.words.specs.Binary32.{_⊕_, _⊗_, decimal};
+ghost use Rattle.words.specs.Binary32.{decimal};
 ghost use Rattle.utils.specs.Frames.{Filled};
 ghost use Rattle.utils.specs.Rendered.{mostFrames};
 ghost use Rattle.oscillator.specs.Bank.{bankLength, waveLength, phaseTop};
-ghost use Rattle.wavetable_oscillator.specs.Oscillator.{waveformTop, moved, filtered};
-ghost use Rattle.wavetable_oscillator.specs.Stages.{WalkedBy, PartedBy, readingAt, KeysFit, FilteredBy, sampleOf};
+ghost use Rattle.wavetable_oscillator.specs.Oscillator.{waveformTop, moved, filtered, sampleOf};
+ghost use Rattle.wavetable_oscillator.specs.Stages.{WalkedBy, PartedBy, readingAt, KeysFit, FilteredBy};
 use oscillator::bank::TABLE_SIZE_F;
 use oscillator::bank::WAVE_LENGTH;
 use oscillator::wavetable_oscillator::Differentiator;
@@ -22,7 +22,7 @@ use utils::engine::RUN_LENGTH;
 use utils::holds::Holds;
 use utils::parameter_interpolator::ParameterInterpolator;
 
-// The scale of a reading where the amplitude approximates it.
+// The source's `scale`, where `approximate_scale` is true.
 const SCALE: f32 = 1.0;
 
 // The phase, and the three parameters on their way.
@@ -116,14 +116,14 @@ pub fn part_all(size: usize, phases: &mut [f32], waveforms: &mut [f32], keys: &m
 }
 
 // A frame's reading: two waves at a phase, and between them by the waveform's fraction.
-fn read(bank: &[i16], key: usize, phase: f32, waveform: f32) -> f32
+fn read(bank: &[i16], key: usize, p_fractional: f32, waveform_fractional: f32) -> f32
     requires { ⌜ length (now bank) ≡ bankLength ⌝ }
     requires { ⌜ key ≤ waveformTop * waveLength + phaseTop ⌝ }
-    ensures { λ r. ⌜ r ≡ readingAt (now (bank .entry)) key phase waveform ⌝ }
+    ensures { λ r. ⌜ r ≡ readingAt (now (bank .entry)) key «p_fractional» «waveform_fractional» ⌝ }
 {
-    let x0 = interpolate_wave_i16(bank, key, phase);
-    let x1 = interpolate_wave_i16(bank, key + WAVE_LENGTH, phase);
-    (x0 + (x1 - x0) * waveform) * SCALE
+    let x0 = interpolate_wave_i16(bank, key, p_fractional);
+    let x1 = interpolate_wave_i16(bank, key + WAVE_LENGTH, p_fractional);
+    (x0 + (x1 - x0) * waveform_fractional) * SCALE
 }
 
 impl Filters {

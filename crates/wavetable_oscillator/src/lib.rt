@@ -52,7 +52,7 @@ pub struct Targets {
     pub waveform: f32,
 }
 
-// Where a block's parameters go to: amplitude 1, for the frequency approximated and attenuated.
+// The same by a row's parameters: amplitude 1, attenuated towards high frequencies, with the scale of the readings approximated in it.
 fn targets_of(parameters: EngineParameters, high: &[f32; 256], low: &[f32; 256]) -> Targets
     ensures { λ r. ⌜ r ≡ targetsOf (now (high .entry)) (now (low .entry)) parameters ⌝ }
 {
@@ -130,6 +130,7 @@ impl WavetableOscillator {
         ensures { λ r. ⌜ Renders (rendered (now (bank .entry)) (now (high .entry)) (now (low .entry)) (length (now (out .entry))) parameters self)
             (length (now (out .entry))) (r .state) (r .holds) (now (out .exit)) (now (aux .exit)) ⌝ }
     {
+        // The runs hold phases, waveforms, coefficients and amplitudes, the corners the filtered readings.
         let size = out.len();
         let targets = targets_of(parameters, high, low);
         let start = self.begin(targets, size);

@@ -1,5 +1,4 @@
 -- `wavetable_engine::frames::held` meets its contract.
-use mathlib.Core.Path.{_∙_, refl}
 use borrow.Author.Needs.{needs}
 use Rattle.wavetable_engine.specs.Wavetable.{holdsOf}
 use Rattle.wavetable_engine.proofs.frames.held.Statement.{statement}

@@ -1,13 +1,13 @@
 -- The loop that writes the words, by the law of lent runs that a loop fills.
 use borrow.Author.Needs.{needs}
 use native.Mathlib.Omega.{arith}
-use mathlib.Core.Path.{_≡_, refl, _∙_}
+use mathlib.Core.Path.{_≡_, refl}
 use Prim.Native.Nat.{_≤_, _-_}
 use lib.Ieee.{nan, binary32, ofBits, toBits}
 use lib.ListN.{length, getD}
 use Rattle.words.specs.Binary32.{decimal}
 use Rattle.oscillator.proofs.Runs.{Filling, filling-none, filling-more}
-use Rattle.wavetable_oscillator.specs.Stages.{sampleOf}
+use Rattle.wavetable_oscillator.specs.Oscillator.{sampleOf}
 use Rattle.wavetable_oscillator.proofs.frames.words_all.Statement.{statement}
 use Rattle.wavetable_oscillator.proofs.frames.words_all.Tie as tie
 
