@@ -11,9 +11,9 @@ ghost use Rattle.terrain.specs.Reach.{reach};
 ghost use Rattle.terrain.specs.Heights.{mapLength, squashOf, terrain0, terrain1, terrain2, terrain3, terrain4, heldPlace, terrainLookup, terrainLookupWt, unheld, terrainOf};
 use oscillator::bank::TABLE_SIZE_F;
 use oscillator::bank::WAVE_LENGTH;
-use oscillator::sine_oscillator::sine;
 use oscillator::wavetable_oscillator::interpolate_integrated_wave;
 use oscillator::wavetable_oscillator::interpolate_wave_u8;
+use sine_oscillator::sine::sine;
 use utils::holds::Holds;
 
 // A height, and what its reading held.

@@ -17,8 +17,8 @@ use Rattle.utils.specs.Frames.{stateAfter, eachOf, sumOf}
 use Rattle.utils.specs.Rendered.{Rendered}
 use Rattle.utils.specs.declared.holds.Holds.{Holds}
 use Rattle.utils.specs.declared.engine.EngineParameters.{EngineParameters}
-use Rattle.oscillator.specs.Path.{pathFresh, pathRun, pathRun2, pathAfter}
-use Rattle.oscillator.specs.Sine.{sineOf}
+use Rattle.sine_oscillator.specs.Path.{pathFresh, pathRun, pathRun2, pathAfter}
+use Rattle.sine_oscillator.specs.Sine.{sineOf}
 use Rattle.terrain.specs.Heights.{terrainOf}
 use Rattle.terrain.specs.Layers.{layerTop}
 use Rattle.terrain.specs.declared.Reading.{Reading}

@@ -16,7 +16,7 @@ ghost use Rattle.utils.specs.Rendered.{Places, Renders};
 ghost use Rattle.terrain.specs.Layers.{Lent, layerTop};
 ghost use Rattle.wave_terrain_engine.specs.Block.{fresh, numTerrains, radiusOf, interpolatorsOf, rendered};
 use frames::Interpolators;
-use oscillator::sine_oscillator::FastSineOscillator;
+use sine_oscillator::FastSineOscillator;
 use utils::engine::CORNERS_LENGTH;
 use utils::engine::EngineParameters;
 use utils::engine::MOST_FRAMES;
