@@ -1,7 +1,7 @@
 -- The count of terrains, by whether there is a map.
 use borrow.Author.Tests.{eq-eqb, ne-eqb}
-use Rattle.wave_terrain_engine.proofs.num_terrains.Statement.{statement}
-use Rattle.wave_terrain_engine.proofs.num_terrains.Tie as tie
+use Rattle.terrain.proofs.num_terrains.Statement.{statement}
+use Rattle.terrain.proofs.num_terrains.Tie as tie
 
 returns : tie.Need-returns
 returns c = simp (eq-eqb _ _ (c .if1 .taken))

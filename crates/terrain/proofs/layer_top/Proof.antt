@@ -1,7 +1,7 @@
 -- The top of the layer number, by whether there is a map.
 use borrow.Author.Tests.{eq-eqb, ne-eqb}
-use Rattle.wave_terrain_engine.proofs.layer_top.Statement.{statement}
-use Rattle.wave_terrain_engine.proofs.layer_top.Tie as tie
+use Rattle.terrain.proofs.layer_top.Statement.{statement}
+use Rattle.terrain.proofs.layer_top.Tie as tie
 
 returns : tie.Need-returns
 returns c = simp (eq-eqb _ _ (c .if1 .taken))
