@@ -8,7 +8,7 @@ use native.Mathlib.Numerals.{add-one}
 use native.Mathlib.Omega.{arith}
 use lib.ListN.{length, take, drop, length-append, length-drop}
 use lib.Seq.{length-take-le, take-take, take-at, drop-at, drop-drop}
-use Rattle.words.specs.Lists.{part, put, Outside}
+use Rattle.lists.specs.Lists.{part, put, Outside}
 
 -- ---- Numbers put in at a place.
 

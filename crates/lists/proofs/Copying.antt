@@ -9,8 +9,8 @@ use borrow.Author.Tests.{eq-eqb, eqb-true}
 use lib.Dec.{eqb}
 use lib.ListN.{length, take, drop, set, getD, length-set, length-take, length-drop, drop-of-length-le}
 use lib.Seq.{take-suc, drop-cons, set-at, length-take-le, append-snoc, take-all}
-use Rattle.words.specs.Lists.{put, same}
-use Rattle.words.proofs.Cases.{both}
+use Rattle.lists.specs.Lists.{put, same}
+use Rattle.lists.proofs.Cases.{both}
 
 -- ---- Comparing.
 

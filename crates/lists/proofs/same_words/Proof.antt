@@ -3,9 +3,9 @@ use Prim.Native.Nat.{_-_}
 use mathlib.Core.Path.{sym, _∙_}
 use lib.ListN.{length}
 use borrow.Author.Needs.{needs}
-use Rattle.words.proofs.Copying.{Alike, alike-none, alike-more, alike-not, alike-all}
-use Rattle.words.proofs.lists.same_words.Statement.{statement}
-use Rattle.words.proofs.lists.same_words.Tie as tie
+use Rattle.lists.proofs.Copying.{Alike, alike-none, alike-more, alike-not, alike-all}
+use Rattle.lists.proofs.same_words.Statement.{statement}
+use Rattle.lists.proofs.same_words.Tie as tie
 
 abbrev Inv-loop : tie.InvT-loop
 Inv-loop old new i₀ i =

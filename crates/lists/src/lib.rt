@@ -2,7 +2,7 @@
 ghost use mathlib.Core.Path.{_≡_};
 ghost use lib.Dec.{eqb};
 ghost use lib.ListN.{length};
-ghost use Rattle.words.specs.Lists.{same};
+ghost use Rattle.lists.specs.Lists.{same};
 
 // Whether two words are the same, pattern by pattern: +0 and -0 differ, and so do two NaNs of different patterns.
 fn same_word(old: u32, new: u32) -> bool

@@ -3,9 +3,9 @@ use Prim.Native.Nat.{_-_}
 use native.Mathlib.Omega.{arith}
 use lib.ListN.{length}
 use borrow.Author.Needs.{needs}
-use Rattle.words.proofs.Copying.{Copied, copied-none, copied-more, copied-all}
-use Rattle.words.proofs.lists.copy_words.Statement.{statement}
-use Rattle.words.proofs.lists.copy_words.Tie as tie
+use Rattle.lists.proofs.Copying.{Copied, copied-none, copied-more, copied-all}
+use Rattle.lists.proofs.copy_words.Statement.{statement}
+use Rattle.lists.proofs.copy_words.Tie as tie
 
 abbrev Inv-loop : tie.InvT-loop
 Inv-loop new words₀ at₀ words at = Copied new words₀ words at
