@@ -8,7 +8,7 @@ use lib.IntN.{ℤ}
 use lib.ListN.{length, drop}
 use lib.Ieee.{ofBits, toBits, lt, le, add, sub, mul, div, neg, ofInt, toUnsigned, isNan}
 use Rattle.words.specs.Binary32.{decimal}
-use Rattle.words.specs.Lists.{same}
+use Rattle.lists.specs.Lists.{same}
 use Rattle.words.specs.Parts.{partOf}
 use Rattle.utils.specs.Holds.{plus, total}
 use Rattle.utils.specs.Frames.{stateAfter, eachOf}

@@ -15,7 +15,7 @@ use mir.Val.{SFits, toZ, ofZ}
 use mir.Facts.{toZ-pos, toZ-ofZ}
 use lib.ListN.{length, getD, take, drop, set, length-append, length-drop, length-set, drop-of-length-le, take-append-drop}
 use lib.Seq.{drop-cons, take-at, take-all, take-suc-set, append-snoc, set-at, length-take-le, drop-drop}
-use Rattle.words.specs.Lists.{put}
+use Rattle.lists.specs.Lists.{put}
 use Rattle.formats.specs.Formats.{Written, digits, digit, bytesOf, lowFirst, i16Of, samplesOf}
 
 -- four bytes in the place of four

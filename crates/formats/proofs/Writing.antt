@@ -6,7 +6,7 @@ use Prim.Native.Nat.{ℕ, _+_, _≤_}
 use native.Mathlib.Omega.{arith}
 use lib.ListN.{length, take, drop, length-append}
 use lib.Seq.{take-all, take-at, drop-at, length-take-le, drop-drop, paste}
-use Rattle.words.specs.Lists.{put}
+use Rattle.lists.specs.Lists.{put}
 use Rattle.formats.specs.Formats.{Written}
 
 put-put : (l : List ℕ) (a : ℕ) (x y : List ℕ) → a ≤ length l → put (put l a x) (a + length x) y ≡ put l a (x ++ y)

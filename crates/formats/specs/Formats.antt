@@ -6,7 +6,7 @@ use mathlib.Core.List.{List, [], _∷_, _++_}
 use lib.Dec.{ltb}
 use lib.IntN.{ℤ, pos, negsuc}
 use lib.ListN.{length}
-use Rattle.words.specs.Lists.{put}
+use Rattle.lists.specs.Lists.{put}
 
 -- A text was put into lent bytes from byte `at` on, and where it ends.
 pub record Written (text before : List ℕ) (at : ℕ) (now : List ℕ) (end : ℕ) : Type 0 where

@@ -8,7 +8,7 @@ use Rattle.words.specs.Parts.{wholePart, wholeFloat, wholeI32Float}
 use Rattle.utils.specs.Units.{a0Of, noteToFrequency, lutPitchRatioHigh, lutPitchRatioLow}
 use Rattle.utils.specs.Utils.{absOf, fastRsqrtCarmack}
 use Rattle.utils.specs.Frames.{eachOf}
-use Rattle.oscillator.specs.Sine.{sineOf, lutSine}
+use Rattle.sine_oscillator.specs.Sine.{sineOf, lutSine}
 
 -- A float's word.
 abbrev word : Float → ℕ

@@ -2,7 +2,7 @@
 ghost use mathlib.Core.Path.{_≡_};
 ghost use lib.ListN.{length};
 ghost use Rattle.utils.specs.Units.{lutPitchRatioHigh, lutPitchRatioLow};
-ghost use Rattle.oscillator.specs.Sine.{lutSine};
+ghost use Rattle.sine_oscillator.specs.Sine.{lutSine};
 ghost use Rattle.helpers_c.specs.Helpers.{answerAt, answersFrom};
 
 // The rate of the frequencies.
@@ -23,7 +23,7 @@ fn answer(which: u32, x: f32, sine: &[f32; 641], high: &[f32; 256], low: &[f32; 
         3 => words::to_word(words::whole_i32_float(x)) as u64,
         4 => words::to_word(utils::abs(x)) as u64,
         5 => words::to_word(utils::rsqrt::fast_rsqrt_carmack(x)) as u64,
-        6 => words::to_word(oscillator::sine_oscillator::sine(sine, x)) as u64,
+        6 => words::to_word(sine_oscillator::sine::sine(sine, x)) as u64,
         _ => words::to_word(utils::engine::note_to_frequency(
             high,
             low,
@@ -38,7 +38,7 @@ fn answer(which: u32, x: f32, sine: &[f32; 641], high: &[f32; 256], low: &[f32; 
 pub extern "C" fn helper_answers(which: u32, from: u32, answers: &mut [u64])
     ensures { λ _. ⌜ now (answers .exit) ≡ answersFrom which (length (now (answers .entry))) from ⌝ }
 {
-    let sine = oscillator::sine::sine_table();
+    let sine = sine_oscillator::sine::sine_table();
     let high = utils::units::pitch_ratio_high();
     let low = utils::units::pitch_ratio_low();
     let mut w = from;

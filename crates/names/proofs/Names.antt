@@ -13,7 +13,7 @@ use Rattle.names.specs.declared.Source.the-variants.{Column, Word, Missi
 use Rattle.text.specs.Text.{space, fieldsOf}
 use Rattle.names.specs.Sources.{sourceOf, sourcesOf, readable, eachReadable, columnsIn, columnCount, eachOnce}
 use Rattle.names.specs.Inner.{mostNames, tableOf}
-use Rattle.words.proofs.Cases.{both}
+use Rattle.lists.proofs.Cases.{both}
 use Rattle.text.proofs.Split.{reach, rest, all-pieces, next-piece, no-piece}
 
 -- ---- the sources of a table's words: the first k are by the line, and the names from `from` on are left

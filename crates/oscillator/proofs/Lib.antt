@@ -1,7 +1,4 @@
--- What the proofs of this crate share.
+-- What the proofs of this crate share, and the bench value.
 pub mod Sizes
 pub mod Readings
-pub mod NearSine
-pub mod SineTop
 pub mod Bench
-pub mod Runs

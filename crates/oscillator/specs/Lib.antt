@@ -1,4 +1,2 @@
 pub mod Bank
-pub mod Path
 pub mod Readings
-pub mod Sine

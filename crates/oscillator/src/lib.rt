@@ -1,5 +1,3 @@
-// The source's `oscillator`, with the sine table of its `resources`.
+// The source's `wavetable_oscillator.rs`, and the bank that its readings read.
 pub mod bank;
-pub mod sine;
-pub mod sine_oscillator;
 pub mod wavetable_oscillator;

@@ -5,7 +5,7 @@ use Prim.Native.Nat.{ℕ, _+_, _-_, _*_, _≤_, zero-le}
 use native.Mathlib.Omega.{arith}
 use lib.ListN.{length, take, drop, length-append}
 use lib.Seq.{length-take-le}
-use Rattle.words.proofs.Copying.{put-is, part-long}
+use Rattle.lists.proofs.Copying.{put-is, part-long}
 use Rattle.formats.specs.Formats.{Written, lowFirst}
 use Rattle.formats.proofs.Writing.{written-more, written-within}
 use Rattle.outputs.specs.declared.files.Place.{Place}

@@ -6,7 +6,7 @@ use Prim.Native.Nat.{ℕ}
 use lib.ListN.{replicate}
 use lib.Ieee.{ofBits, le}
 use Rattle.words.specs.Binary32.{decimal}
-use Rattle.words.specs.Lists.{same}
+use Rattle.lists.specs.Lists.{same}
 use Rattle.score.specs.Rows.{note, timbre, restart}
 use Rattle.score.specs.Limits.{floatTo, limit, rowWithin}
 use Rattle.reader.specs.declared.ReadAnswer.the-variants.{Read}

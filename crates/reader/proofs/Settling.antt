@@ -20,7 +20,7 @@ use Rattle.names.specs.Sources.{Entry, sourcesOf, eachReadable, columnCount, ea
 use Rattle.names.specs.Inner.{mostNames, tableOf}
 use Rattle.values.specs.Lines.{rowsOf, lineNumber}
 use Rattle.reader.specs.Reading.{refusedAt, outcome, testLines, testText, textRows, refuse, countNumber, settle, readText, scoreTable, editTable}
-use Rattle.words.proofs.Cases.{both}
+use Rattle.lists.proofs.Cases.{both}
 use Rattle.text.proofs.Split.{reach, first-piece}
 use Rattle.text.proofs.FirstLine.{first-line, open-line}
 use Rattle.values.proofs.Values.{unlimited, value}

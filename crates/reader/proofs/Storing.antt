@@ -17,7 +17,7 @@ use Rattle.text.specs.Text.{Line, linesOf, restOf}
 use Rattle.values.specs.Lines.{holdsWords, rowOf, rowsOf, lineNumber}
 use Rattle.values.specs.Inner.{lineAt}
 use Rattle.reader.specs.Reading.{refusedAt, testLines}
-use Rattle.words.proofs.Cases.{le-or-lt}
+use Rattle.lists.proofs.Cases.{le-or-lt}
 use Rattle.text.proofs.FirstLine.{some-line}
 use Rattle.values.proofs.Fields.{fieldBytes}
 use Rattle.values.proofs.Values.{value, next-line, line-fits}

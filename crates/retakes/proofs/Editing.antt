@@ -9,9 +9,9 @@ use native.Mathlib.Omega.{arith}
 use borrow.Author.Tests.{eq-eqb, eqb-true, eqb-false}
 use lib.Dec.{eqb}
 use lib.ListN.{length}
-use Rattle.words.specs.Lists.{same, Outside}
-use Rattle.words.proofs.Copying.{same-eq, same-refl}
-use Rattle.words.proofs.Places.{put-outside, put-long}
+use Rattle.lists.specs.Lists.{same, Outside}
+use Rattle.lists.proofs.Copying.{same-eq, same-refl}
+use Rattle.lists.proofs.Places.{put-outside, put-long}
 use Rattle.utils.specs.declared.holds.Holds.{Holds}
 use Rattle.score.specs.Rows.{rowWords, wordFor, restart, rowAt, restarts}
 use Rattle.score.specs.declared.refusal.Refusal.{Refusal}

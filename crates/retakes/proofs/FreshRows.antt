@@ -6,7 +6,7 @@ use native.Mathlib.Nat.{add-zero, zero-add, suc-mul, zero-mul}
 use native.Mathlib.Omega.{arith}
 use lib.ListN.{length, getD, take, drop, length-drop, take-append-drop}
 use lib.Seq.{drop-cons, drop-drop}
-use Rattle.words.specs.Lists.{part}
+use Rattle.lists.specs.Lists.{part}
 use Rattle.voice.specs.declared.State.{State}
 use Rattle.voice.specs.Voice.{keptCount, voiceOf, stateOf}
 use Rattle.voice.proofs.Laws.{fresh-back}

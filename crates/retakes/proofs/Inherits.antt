@@ -10,7 +10,7 @@ use borrow.Author.Tests.{ltb-false}
 use lib.Dec.{ltb}
 use lib.ListN.{take, drop}
 use lib.Seq.{drop-drop}
-use Rattle.words.proofs.Cases.{le-or-lt}
+use Rattle.lists.proofs.Cases.{le-or-lt}
 use Rattle.score.specs.Rows.{rowWords, rowAt}
 use Rattle.score.specs.Limits.{rowWithin, firstBad, badRefusal, limitRefusal}
 use Rattle.score.specs.Numbers.{refusal, accepted, limitNumber}

@@ -11,9 +11,9 @@ use borrow.Author.Tests.{eq-eqb, ne-eqb, eqb-true, ltb-true, ltb-false}
 use lib.Dec.{eqb, ltb}
 use lib.ListN.{length, take, drop, take-append-drop}
 use lib.Seq.{take-all}
-use Rattle.words.specs.Lists.{put, same}
-use Rattle.words.proofs.Cases.{le-or-lt}
-use Rattle.words.proofs.Places.{part-outside}
+use Rattle.lists.specs.Lists.{put, same}
+use Rattle.lists.proofs.Cases.{le-or-lt}
+use Rattle.lists.proofs.Places.{part-outside}
 use Rattle.utils.specs.declared.holds.Holds.{Holds}
 use Rattle.score.specs.declared.refusal.Refusal.{Refusal}
 use Rattle.score.specs.Rows.{rowWords, wordFor, restart, rowAt}

@@ -9,7 +9,7 @@ use native.Mathlib.Omega.{arith}
 use native.Mathlib.Nat.{eq-or-lt-of-le, le-refl}
 use borrow.Author.Tests.{eqb-true, eqb-false, eq-eqb}
 use lib.Dec.{eqb}
-use Rattle.words.specs.Lists.{same}
+use Rattle.lists.specs.Lists.{same}
 use Rattle.utils.specs.Holds.{none, plus, total}
 use Rattle.utils.specs.declared.holds.Holds.{Holds}
 use Rattle.score.specs.Rows.{rowAt}

@@ -5,7 +5,7 @@ use mathlib.Core.Logic.{_⊎_}
 use Prim.Native.Nat.{ℕ, _+_, _*_, _≤_, _<_}
 use native.Mathlib.Omega.{arith}
 use lib.ListN.{length}
-use Rattle.words.proofs.Places.{part-end, put-part, put-outside, put-long, part-outside, outside-then}
+use Rattle.lists.proofs.Places.{part-end, put-part, put-outside, put-long, part-outside, outside-then}
 use Rattle.score.specs.Rows.{rowWords}
 use Rattle.voice.specs.Voice.{keptCount}
 use Rattle.voice.proofs.Laws as voice

@@ -8,7 +8,7 @@ use mathlib.Core.Path.{_≡_}
 use mathlib.Core.Logic.{_⊎_}
 use lib.Dec.{eqb}
 use lib.ListN.{length, getD, take, drop}
-use Rattle.words.specs.Lists.{part, Outside}
+use Rattle.lists.specs.Lists.{part, Outside}
 use Rattle.utils.specs.Holds.{none, total}
 use Rattle.utils.specs.declared.holds.Holds.{Holds}
 use Rattle.voice.specs.declared.State.{State}

@@ -6,7 +6,7 @@ use lib.Dec.{eqb}
 use lib.IntN.{ℤ}
 use lib.ListN.{getD}
 use lib.Ieee.{Float, binary32, ofBits}
-use Rattle.words.specs.Lists.{part, put, same}
+use Rattle.lists.specs.Lists.{part, put, same}
 use Rattle.utils.specs.Units.{a0Of}
 use Rattle.utils.specs.Holds.{none, plus}
 use Rattle.utils.specs.declared.holds.Holds.{Holds}

@@ -2,7 +2,7 @@
 ghost use mathlib.Core.Path.{_≡_};
 ghost use Prim.Native.Nat.{_+_, _*_, _≤_, _<_};
 ghost use lib.ListN.{length};
-ghost use Rattle.words.specs.Lists.{put, same};
+ghost use Rattle.lists.specs.Lists.{put, same};
 ghost use Rattle.utils.specs.Units.{a0Of};
 ghost use Rattle.score.specs.Rows.{rowWords, mostRows};
 ghost use Rattle.voice.specs.Voice.{Lent, Tables, keptCount, voiceOf, freshState, stateOf};
@@ -76,7 +76,7 @@ pub fn words_before(instrument: u32, rate: u32, kept: &[u32], k: usize) -> [u32;
     let a = (k - 1) * KEPT_WORDS;
     let e = a + KEPT_WORDS;
     let mut before = [0; KEPT_WORDS];
-    words::lists::copy_words(&kept[a..e], &mut before);
+    lists::copy_words(&kept[a..e], &mut before);
     before
 }
 
@@ -105,8 +105,8 @@ pub fn keep(new: [u32; KEPT_WORDS], k: usize, kept: &mut [u32]) -> bool
 {
     let a = k * KEPT_WORDS;
     let e = a + KEPT_WORDS;
-    let same = words::lists::same_words(&kept[a..e], &new);
-    words::lists::copy_words(&new, &mut kept[a..e]);
+    let same = lists::same_words(&kept[a..e], &new);
+    lists::copy_words(&new, &mut kept[a..e]);
     same
 }
 

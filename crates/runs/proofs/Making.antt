@@ -5,9 +5,9 @@ use mathlib.Core.Bool.{Bool}
 use Prim.Native.Nat.{ℕ, zero, suc, _+_, _-_, _*_, _≤_}
 use native.Mathlib.Omega.{arith}
 use lib.ListN.{take, drop}
-use Rattle.words.specs.Lists.{put, same}
-use Rattle.words.proofs.Copying.{part-long}
-use Rattle.words.proofs.Places.{part-end}
+use Rattle.lists.specs.Lists.{put, same}
+use Rattle.lists.proofs.Copying.{part-long}
+use Rattle.lists.proofs.Places.{part-end}
 use Rattle.utils.specs.Rendered.{mostFrames, Renders}
 use Rattle.utils.specs.declared.holds.Holds.{Holds}
 use Rattle.utils.specs.declared.engine.EngineParameters.{EngineParameters}

@@ -8,8 +8,8 @@ use native.Mathlib.Omega.{arith}
 use borrow.Author.Tests.{eq-eqb, eqb-false}
 use lib.Dec.{eqb}
 use lib.ListN.{length}
-use Rattle.words.specs.Lists.{same}
-use Rattle.words.proofs.Places.{part-end}
+use Rattle.lists.specs.Lists.{same}
+use Rattle.lists.proofs.Places.{part-end}
 use Rattle.utils.specs.Holds.{none, plus, AtMost, mostCount}
 use Rattle.utils.specs.Rendered.{mostFrames, mostHolds}
 use Rattle.utils.specs.declared.holds.Holds.{Holds}

@@ -4,7 +4,7 @@ use mathlib.Core.Path.{_≡_}
 use mathlib.Core.List.{List}
 use mathlib.Core.Bool.{Bool}
 use lib.ListN.{length}
-use Rattle.words.specs.Lists.{same}
+use Rattle.lists.specs.Lists.{same}
 use Rattle.utils.specs.Rendered.{mostFrames, mostHolds}
 use Rattle.utils.specs.Holds.{AtMost}
 use Rattle.utils.specs.declared.holds.Holds.{Holds}

@@ -219,7 +219,7 @@ pub fn run(
         ≡ runOf (setup settings (now (bank .entry)) (now (map .entry))) (now (rows .entry)) n n from to
         (lent (now (out .entry)) (now (aux .entry)) (now (kept .entry))) ⌝ }
 {
-    let sine = oscillator::sine::sine_table();
+    let sine = sine_oscillator::sine::sine_table();
     let high = utils::units::pitch_ratio_high();
     let low = utils::units::pitch_ratio_low();
     let mut keys = [0; MOST_FRAMES];

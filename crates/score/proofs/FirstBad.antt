@@ -7,7 +7,7 @@ use native.Mathlib.Nat.{add-zero}
 use native.Mathlib.Omega.{arith}
 use lib.ListN.{length, take, drop, length-drop}
 use lib.Seq.{take-take, take-nil, take-all, drop-drop}
-use Rattle.words.proofs.Places.{put-part, put-outside}
+use Rattle.lists.proofs.Places.{put-part, put-outside}
 use Rattle.score.specs.Rows.{rowWords, putRow}
 use Rattle.score.specs.Limits.{rowWithin, firstBad, limitRefusal}
 

@@ -14,7 +14,7 @@ use lib.Ieee.{Float, nan, inf, fin, binary32, up, down, le, lt, eq, ofBits, ofFi
 use lib.Ieee.Exact.{HasValue, odd-sign}
 use lib.Ieee.Fits.{down-pos}
 use lib.Ieee.Order.{transfer}
-use Rattle.words.proofs.Cases.{le-or-lt}
+use Rattle.lists.proofs.Cases.{le-or-lt}
 
 -- two tests are the same where each way of the one is that way of the other
 same-leb : (a b c d : ℕ) → (a ≤ b → c ≤ d) → (b < a → d < c) → leb a b ≡ leb c d

@@ -15,7 +15,7 @@ use lib.Ieee.{fin, binary32, ofBits, le}
 use Rattle.words.specs.Binary32.{decimal}
 use Rattle.score.specs.Rows.{rowWords, rowAt, note, timbre, morph, harmonics, restart, wordFor}
 use Rattle.score.specs.Limits.{floatTo, limit, rowWithin, firstBad}
-use Rattle.words.proofs.Cases.{le-or-lt, and-false}
+use Rattle.lists.proofs.Cases.{le-or-lt, and-false}
 use Rattle.score.proofs.Order.{word-size, finite-word, words-order, past-finite, minus-zero, below-zero}
 
 -- a word, with -0 taken for +0

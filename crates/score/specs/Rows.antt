@@ -4,7 +4,7 @@ use mathlib.Core.Bool.{Bool}
 use mathlib.Core.List.{List, [], _∷_}
 use lib.ListN.{getD}
 use lib.Dec.{eqb}
-use Rattle.words.specs.Lists.{part, put}
+use Rattle.lists.specs.Lists.{part, put}
 
 -- "A row is five words."
 abbrev pub rowWords : ℕ

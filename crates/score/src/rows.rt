@@ -1,10 +1,10 @@
 // A score's rows: words one row after the other.
-use words::lists::copy_words;
-use words::lists::same_words;
+use lists::copy_words;
+use lists::same_words;
 ghost use mathlib.Core.Path.{_≡_};
 ghost use Prim.Native.Nat.{_+_, _*_, _≤_};
 ghost use lib.ListN.{length};
-ghost use Rattle.words.specs.Lists.{same};
+ghost use Rattle.lists.specs.Lists.{same};
 ghost use Rattle.score.specs.Rows.{rowWords, rowAt, putRow, restarts};
 
 // A row's words.

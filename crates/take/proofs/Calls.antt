@@ -6,8 +6,8 @@ use Prim.Native.Nat.{ℕ, _+_, _*_, _≤_, _<_}
 use native.Mathlib.Omega.{arith}
 use borrow.Author.Tests.{eq-eqb, ne-eqb}
 use lib.ListN.{length}
-use Rattle.words.specs.Lists.{same}
-use Rattle.words.proofs.Places.{put-long}
+use Rattle.lists.specs.Lists.{same}
+use Rattle.lists.proofs.Places.{put-long}
 use Rattle.score.specs.declared.refusal.Refusal.{Refusal}
 use Rattle.score.specs.Rows.{rowWords, rowAt, putRow}
 use Rattle.score.specs.Limits.{limitRefusal}

@@ -4,7 +4,7 @@ use Prim.Native.Nat.{ℕ, _+_}
 use mathlib.Core.List.{List, [], _∷_}
 use mathlib.Core.Bool.{cond}
 use lib.Dec.{eqb}
-use Rattle.words.specs.Lists.{same}
+use Rattle.lists.specs.Lists.{same}
 use Rattle.score.specs.Rows.{rowAt, putRow}
 use Rattle.score.specs.Numbers.{Result, done, refused}
 use Rattle.score.specs.declared.refusal.Refusal.{Refusal}

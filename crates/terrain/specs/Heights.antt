@@ -17,7 +17,7 @@ use Rattle.oscillator.specs.Readings.{
   interpolateWave,
   interpolateIntegratedWave,
 }
-use Rattle.oscillator.specs.Sine.{sineOf}
+use Rattle.sine_oscillator.specs.Sine.{sineOf}
 use Rattle.terrain.specs.declared.Place.{Place}
 use Rattle.terrain.specs.declared.Reading.{Reading}
 

@@ -15,6 +15,10 @@ pub record Lent (bank : List ℤ) (map : List ℕ) : Type 0 where
   pub bank-long : length bank ≡ bankLength
   pub map-long : (length map ≡ 0) ⊎ (length map ≡ mapLength)
 
+-- "Layers 0 to 7, and 8 with a map."
+abbrev pub numTerrains : List ℕ → ℕ
+numTerrains map = cond (eqb (length map) 0) 8 9
+
 -- "The whole layer number is held at 6 without a map and 7 with one".
 abbrev pub top : ℕ
 top = 6

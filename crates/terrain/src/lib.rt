@@ -1,4 +1,4 @@
-// The terrains: their height at a point.
+// The terrains: how many there are, and their height at a point.
 // Based on MIT-licensed code (c) 2021 by Emilie Gillet (emilie.o.gillet@gmail.com)
 ghost use mathlib.Core.Path.{_≡_};
 ghost use Prim.Native.Nat.{_+_, _≤_, min};
@@ -6,14 +6,14 @@ ghost use lib.ListN.{length};
 ghost use Rattle.words.specs.Binary32.{_⊖_};
 ghost use Rattle.words.specs.Parts.{wholePart, wholeFloat};
 ghost use Rattle.oscillator.specs.Bank.{bankLength};
-ghost use Rattle.terrain.specs.Layers.{Lent, layerTop};
+ghost use Rattle.terrain.specs.Layers.{Lent, numTerrains, layerTop};
 ghost use Rattle.terrain.specs.Reach.{reach};
 ghost use Rattle.terrain.specs.Heights.{mapLength, squashOf, terrain0, terrain1, terrain2, terrain3, terrain4, heldPlace, terrainLookup, terrainLookupWt, unheld, terrainOf};
 use oscillator::bank::TABLE_SIZE_F;
 use oscillator::bank::WAVE_LENGTH;
-use oscillator::sine_oscillator::sine;
 use oscillator::wavetable_oscillator::interpolate_integrated_wave;
 use oscillator::wavetable_oscillator::interpolate_wave_u8;
+use sine_oscillator::sine::sine;
 use utils::holds::Holds;
 
 // A height, and what its reading held.
@@ -46,6 +46,11 @@ const COORD_SCALE: f32 = (TERRAIN_SIZE - 2) as f32 * 0.5;
 const NUM_WAVES: usize = 64;
 
 const LAST_WAVE: f32 = (NUM_WAVES - 1) as f32;
+
+// The top of the whole layer number, without a map and with one.
+pub const TOP: usize = 6;
+
+pub const TOP_WITH_MAP: usize = 7;
 
 // The last places from which a reading of the map and of the bank stays within.
 pub const MAP_EDGE: usize = 4030;
@@ -226,4 +231,18 @@ pub fn terrain(
         7 => terrain_lookup_wt(bank, x, y, 0),
         _ => terrain_lookup(map, x, y),
     }
+}
+
+// How many terrains there are.
+pub fn num_terrains(map: &[u8]) -> usize
+    ensures { λ r. ⌜ r ≡ numTerrains (now (map .entry)) ⌝ }
+{
+    if map.len() == 0 { 8 } else { 9 }
+}
+
+// The top of the whole layer number.
+pub fn layer_top(map: &[u8]) -> usize
+    ensures { λ r. ⌜ r ≡ layerTop (now (map .entry)) ⌝ }
+{
+    if map.len() == 0 { TOP } else { TOP_WITH_MAP }
 }

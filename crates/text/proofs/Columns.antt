@@ -5,7 +5,7 @@ use mathlib.Core.List.{List, [], _∷_}
 use Prim.Native.Nat.{ℕ, suc}
 use lib.Dec.{eqb}
 use lib.ListN.{length}
-use Rattle.words.specs.Lists.{same}
+use Rattle.lists.specs.Lists.{same}
 use Rattle.text.specs.Text.{columnOf}
 
 pub other-lengths : (a b : List ℕ) → (length a ≡ length b → ⊥) → same a b ≡ false

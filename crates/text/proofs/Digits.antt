@@ -10,7 +10,7 @@ use lib.Dec.{leb, eqb}
 use lib.ListN.{length, getD, take, drop, length-drop}
 use lib.Seq.{drop-cons, take-add, drop-drop, length-take-le}
 use Rattle.text.specs.Text.{between, isDigit, digitOf, eachDigit, wordDigits, isWord, followedBy, wordOf}
-use Rattle.words.proofs.Cases.{both, and-true}
+use Rattle.lists.proofs.Cases.{both, and-true}
 
 -- ---- a digit
 inside : (low high b : ℕ) → between low high b ≡ true → (low ≤ b) × (b ≤ high)

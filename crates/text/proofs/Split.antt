@@ -11,7 +11,7 @@ use lib.Dec.{leb, eqb, leb·zero}
 use lib.ListN.{length, getD, take, drop, drop-of-length-le}
 use lib.Seq.{drop-cons, drop-drop}
 use Rattle.text.specs.Text.{onFirst, split}
-use Rattle.words.proofs.Cases.{le-or-lt}
+use Rattle.lists.proofs.Cases.{le-or-lt}
 
 -- how many bytes the first piece has
 abbrev pub reach : ℕ → List ℕ → ℕ

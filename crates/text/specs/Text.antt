@@ -6,7 +6,7 @@ use mathlib.Core.Bool.{Bool, true, _&&_, _||_, cond}
 use mathlib.Core.List.{List, [], _∷_}
 use lib.ListN.{length}
 use lib.Dec.{leb, eqb}
-use Rattle.words.specs.Lists.{same}
+use Rattle.lists.specs.Lists.{same}
 
 -- The bytes of a text of ASCII characters.
 abbrev pub bytes : String → List ℕ

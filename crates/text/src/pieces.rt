@@ -3,7 +3,7 @@ ghost use mathlib.Core.Path.{_≡_};
 ghost use mathlib.Core.List.{[]};
 ghost use Prim.Native.Nat.{_+_, _≤_};
 ghost use lib.ListN.{length, getD, drop};
-ghost use Rattle.words.specs.Lists.{same};
+ghost use Rattle.lists.specs.Lists.{same};
 ghost use Rattle.text.specs.Text.{split, fieldsOf, columnOf};
 
 pub const LF: u8 = 10;

@@ -2,5 +2,6 @@
 pub mod Magnitude
 pub mod Sums
 pub mod Frames
+pub mod Runs
 pub mod Rising
 pub mod PitchEntries

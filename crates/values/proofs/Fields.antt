@@ -13,7 +13,7 @@ use lib.Seq.{drop-cons, take-take, getD-take, length-take-le, drop-drop}
 use Rattle.text.specs.Text.{lf, space, onFirst, split, Line, ended, unended, contents, lined, linesOf, firstOf, restOf, fieldsOf, isDigit, eachDigit, wordDigits, isWord, eachWord}
 use Rattle.values.specs.Lines.{holdsWords}
 use Rattle.values.specs.Inner.{startsWord}
-use Rattle.words.proofs.Cases.{le-or-lt, both, and-true, and-false}
+use Rattle.lists.proofs.Cases.{le-or-lt, both, and-true, and-false}
 use Rattle.text.proofs.Split.{reach, first-piece, reach-fits, reach-at}
 use Rattle.text.proofs.FirstLine.{lined-cut, first-line, open-line}
 

@@ -17,7 +17,7 @@ use Rattle.names.specs.declared.Source.the-variants.{Column}
 use Rattle.names.specs.Sources.{eachReadable}
 use Rattle.values.specs.Lines.{holdsWords, wordFrom, rowOf, lineNumber}
 use Rattle.values.specs.Inner.{lineAt, OnLine}
-use Rattle.words.proofs.Cases.{both}
+use Rattle.lists.proofs.Cases.{both}
 use Rattle.text.proofs.Digits.{word-fits}
 use Rattle.names.proofs.Names.{readable-at}
 use Rattle.values.proofs.Fields.{fieldBytes, Right, right}

@@ -10,7 +10,7 @@ use lib.Ieee.{Float, binary32, ofBits, toBits}
 use Rattle.utils.specs.Units.{lutPitchRatioHigh, lutPitchRatioLow}
 use Rattle.utils.specs.Rendered.{Rendered}
 use Rattle.utils.specs.declared.engine.EngineParameters.{EngineParameters}
-use Rattle.oscillator.specs.Sine.{lutSine}
+use Rattle.sine_oscillator.specs.Sine.{lutSine}
 use Rattle.wavetable_engine.specs.Wavetable as wavetable
 use Rattle.wavetable_engine.specs.declared.WavetableEngine.{WavetableEngine}
 use Rattle.wave_terrain_engine.specs.Block as terrain

@@ -2,8 +2,8 @@
 ghost use mathlib.Core.Path.{_≡_};
 ghost use lib.ListN.{length};
 ghost use Rattle.voice.specs.Voice.{voiceOf, keptCount, freshState, keptWords, wavetableOf, terrainOf, oscillatorOf, stateOf};
-use oscillator::sine_oscillator::FastSineOscillator;
 use oscillator::wavetable_oscillator::Differentiator;
+use sine_oscillator::FastSineOscillator;
 use wave_terrain_engine::WaveTerrainEngine;
 use wavetable_engine::WavetableEngine;
 use wavetable_oscillator::WavetableOscillator;

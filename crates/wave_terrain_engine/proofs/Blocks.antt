@@ -19,9 +19,9 @@ use Rattle.utils.proofs.Frames.{part-after, each-length, each-at}
 use Rattle.words.specs.Binary32.{_⊗_}
 use Rattle.utils.specs.Units.{noteToFrequency}
 use Rattle.utils.specs.declared.engine.EngineParameters.{EngineParameters}
-use Rattle.oscillator.specs.Path.{pathRun, pathRun2, pathAfter}
-use Rattle.oscillator.specs.Sine.{sineOf}
-use Rattle.oscillator.specs.declared.sine_oscillator.FastSineOscillator.{FastSineOscillator}
+use Rattle.sine_oscillator.specs.Path.{pathRun, pathRun2, pathAfter}
+use Rattle.sine_oscillator.specs.Sine.{sineOf}
+use Rattle.sine_oscillator.specs.declared.FastSineOscillator.{FastSineOscillator}
 use Rattle.terrain.specs.Layers.{layerTop}
 use Rattle.wave_terrain_engine.specs.declared.WaveTerrainEngine.{WaveTerrainEngine}
 use Rattle.wave_terrain_engine.specs.Block.{

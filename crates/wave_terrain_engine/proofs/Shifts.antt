@@ -9,7 +9,7 @@ use Rattle.words.specs.Parts.{partOf}
 use Rattle.words.specs.declared.Part.{Part}
 use Rattle.utils.specs.Frames.{stateAfter}
 use Rattle.utils.proofs.Frames.{after-more}
-use Rattle.oscillator.proofs.Runs.{Filling, filling-none, filling-more}
+use Rattle.utils.proofs.Runs.{Filling, filling-none, filling-more}
 use Rattle.wave_terrain_engine.specs.Block.{interpolatorsNext, shiftedX}
 use Rattle.wave_terrain_engine.specs.Stages.{stageX, stageLayer, stageFraction}
 use Rattle.wave_terrain_engine.specs.declared.frames.Interpolators.{Interpolators}

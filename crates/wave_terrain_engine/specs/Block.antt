@@ -1,10 +1,8 @@
 -- Document 01, "Path and terrain voice": a block of frames, `render` of `wave_terrain_engine.rs`.
 use Prim.Native.Nat.{ℕ, _+_, _*_}
-use mathlib.Core.Bool.{cond}
 use mathlib.Core.List.{List}
-use lib.Dec.{eqb}
 use lib.IntN.{ℤ}
-use lib.ListN.{length, getD}
+use lib.ListN.{getD}
 use lib.Ieee.{Float, nan, binary32, toBits}
 use Rattle.words.specs.Binary32.{_⊕_, _⊖_, _⊗_, _⊘_, decimal, ofCount}
 use Rattle.words.specs.Parts.{partOf}
@@ -17,10 +15,10 @@ use Rattle.utils.specs.Frames.{stateAfter, eachOf, sumOf}
 use Rattle.utils.specs.Rendered.{Rendered}
 use Rattle.utils.specs.declared.holds.Holds.{Holds}
 use Rattle.utils.specs.declared.engine.EngineParameters.{EngineParameters}
-use Rattle.oscillator.specs.Path.{pathFresh, pathRun, pathRun2, pathAfter}
-use Rattle.oscillator.specs.Sine.{sineOf}
+use Rattle.sine_oscillator.specs.Path.{pathFresh, pathRun, pathRun2, pathAfter}
+use Rattle.sine_oscillator.specs.Sine.{sineOf}
 use Rattle.terrain.specs.Heights.{terrainOf}
-use Rattle.terrain.specs.Layers.{layerTop}
+use Rattle.terrain.specs.Layers.{numTerrains, layerTop}
 use Rattle.terrain.specs.declared.Reading.{Reading}
 use Rattle.wave_terrain_engine.specs.declared.frames.Interpolators.{Interpolators}
 use Rattle.wave_terrain_engine.specs.declared.WaveTerrainEngine.{WaveTerrainEngine}
@@ -35,10 +33,6 @@ oversampling = 2
 
 abbrev pub scale : Float
 scale = decimal 1 0 ⊘ ofCount oversampling
-
--- "Layers 0 to 7, and 8 with a map."
-abbrev pub numTerrains : List ℕ → ℕ
-numTerrains map = cond (eqb (length map) 0) 8 9
 
 -- ---- A frame. Its state: the interpolators of offset and layer, and the next entry of the path's two runs.
 

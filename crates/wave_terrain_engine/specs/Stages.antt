@@ -8,7 +8,7 @@ use lib.Ieee.{Float, nan, binary32, toBits}
 use Rattle.utils.specs.Holds.{AtMost}
 use Rattle.utils.specs.Frames.{stateAfter}
 use Rattle.utils.specs.declared.holds.Holds.{Holds}
-use Rattle.oscillator.specs.Sine.{sineOf}
+use Rattle.sine_oscillator.specs.Sine.{sineOf}
 use Rattle.terrain.specs.Heights.{terrainOf}
 use Rattle.wave_terrain_engine.specs.Block.{oversampling, interpolatorsNext, offsetOf, layerOf, shiftedX, between, outOf, phaseOf, framesOut, framesAux, framesHolds}
 use Rattle.wave_terrain_engine.specs.declared.frames.Interpolators.{Interpolators}

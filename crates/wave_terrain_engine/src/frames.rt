@@ -9,7 +9,7 @@ ghost use Rattle.utils.specs.Frames.{stateAfter, sumOf, Filled};
 ghost use Rattle.terrain.specs.Layers.{Lent, topWithMap, layerTop};
 ghost use Rattle.wave_terrain_engine.specs.Block.{oversampling, interpolatorsNext, shiftedX, between, outOf, phaseOf};
 ghost use Rattle.wave_terrain_engine.specs.Stages.{stageX, stageLayer, stageFraction, stageHeight, stageOut, stagePhase, stageAux, Room, FramesDone};
-use oscillator::sine_oscillator::sine;
+use sine_oscillator::sine::sine;
 use terrain::terrain;
 use utils::holds::Holds;
 use utils::parameter_interpolator::ParameterInterpolator;

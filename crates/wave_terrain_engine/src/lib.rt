@@ -13,10 +13,10 @@
 ghost use mathlib.Core.Path.{_≡_};
 ghost use lib.ListN.{length};
 ghost use Rattle.utils.specs.Rendered.{Places, Renders};
-ghost use Rattle.terrain.specs.Layers.{Lent, layerTop};
-ghost use Rattle.wave_terrain_engine.specs.Block.{fresh, numTerrains, radiusOf, interpolatorsOf, rendered};
+ghost use Rattle.terrain.specs.Layers.{Lent};
+ghost use Rattle.wave_terrain_engine.specs.Block.{fresh, radiusOf, interpolatorsOf, rendered};
 use frames::Interpolators;
-use oscillator::sine_oscillator::FastSineOscillator;
+use sine_oscillator::FastSineOscillator;
 use utils::engine::CORNERS_LENGTH;
 use utils::engine::EngineParameters;
 use utils::engine::MOST_FRAMES;
@@ -40,9 +40,9 @@ pub struct Block {
 
 impl WaveTerrainEngine {
     // The top of the whole layer number, without a map and with one.
-    pub const TOP: usize = 6;
+    pub const TOP: usize = terrain::TOP;
 
-    pub const TOP_WITH_MAP: usize = 7;
+    pub const TOP_WITH_MAP: usize = terrain::TOP_WITH_MAP;
 
     // The last places from which a reading of the map and of the bank stays within.
     pub const MAP_EDGE: usize = terrain::MAP_EDGE;
@@ -101,7 +101,7 @@ impl WaveTerrainEngine {
         let start = self.interpolators(parameters, map, n);
         let frames = frames::render_frames(
             start,
-            layer_top(map),
+            terrain::layer_top(map),
             sine,
             bank,
             map,
@@ -130,7 +130,7 @@ impl WaveTerrainEngine {
         ensures { λ r. ⌜ r ≡ interpolatorsOf (now (map .entry)) parameters self n ⌝ }
     {
         let offset = ParameterInterpolator::new(self.offset, 1.9 * parameters.morph - 1.0, n);
-        let count = words::float_of_u64(num_terrains(map) as u64);
+        let count = words::float_of_u64(terrain::num_terrains(map) as u64);
         let terrain_idx = ParameterInterpolator::new(
             self.terrain_idx,
             utils::min(parameters.harmonics * 1.05, 1.0) * (count - 1.0001),
@@ -150,22 +150,4 @@ fn radius_at(f0: f32, timbre: f32) -> f32
     let attenuation = utils::max(1.0 - 8.0 * f0, 0.0);
 
     0.1 + 0.9 * timbre * attenuation * (2.0 - attenuation)
-}
-
-// How many terrains there are.
-fn num_terrains(map: &[u8]) -> usize
-    ensures { λ r. ⌜ r ≡ numTerrains (now (map .entry)) ⌝ }
-{
-    if map.len() == 0 { 8 } else { 9 }
-}
-
-// The top of the whole layer number.
-fn layer_top(map: &[u8]) -> usize
-    ensures { λ r. ⌜ r ≡ layerTop (now (map .entry)) ⌝ }
-{
-    if map.len() == 0 {
-        WaveTerrainEngine::TOP
-    } else {
-        WaveTerrainEngine::TOP_WITH_MAP
-    }
 }

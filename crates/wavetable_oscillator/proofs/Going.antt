@@ -16,7 +16,7 @@ use Rattle.utils.specs.declared.holds.Holds.{Holds}
 use Rattle.utils.proofs.Frames.{after-more, count-none, count-more}
 use Rattle.oscillator.specs.Bank.{tableSizeF, phaseTop}
 use Rattle.oscillator.specs.Readings.{cutoffOf}
-use Rattle.oscillator.proofs.Runs.{Filling, filling-none, filling-more, filling-next}
+use Rattle.utils.proofs.Runs.{Filling, filling-none, filling-more, filling-next}
 use Rattle.wavetable_oscillator.specs.declared.frames.Positions.{Positions}
 use Rattle.wavetable_oscillator.specs.declared.frames.Filters.{Filters}
 use Rattle.wavetable_oscillator.specs.Oscillator.{waveformTop, moved, holdsOf, filtered}

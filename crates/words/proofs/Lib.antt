@@ -8,7 +8,4 @@ pub mod Parts
 pub mod Values
 pub mod ByRounding
 pub mod HeldWhole
-pub mod Copying
-pub mod Places
-pub mod Cases
 pub mod Bench

@@ -1,4 +1,3 @@
 pub mod Binary32
 pub mod Parts
 pub mod Inner
-pub mod Lists

@@ -8,8 +8,6 @@ ghost use Rattle.words.specs.Binary32.{_⊖_, ofCount};
 ghost use Rattle.words.specs.Parts.{wholeFloat, wholeI32Float, partOf};
 ghost use Rattle.words.specs.Inner.{Scaled, Small};
 
-pub mod lists;
-
 // The word of a float. Any NaN gives 7fc00000.
 pub fn to_word(x: f32) -> u32
     ensures { λ r. ⌜ r ≡ toBits binary32 x ⌝ }

@@ -3,7 +3,7 @@ use mathlib.Core.Path.{sym, ap, _∙_, refl}
 use mathlib.Core.List.{List}
 use lib.Ieee.{Float, binary32, toBits}
 use borrow.Author.Needs.{needs}
-use Rattle.oscillator.specs.Sine.{sineOf}
+use Rattle.sine_oscillator.specs.Sine.{sineOf}
 use Rattle.helpers_c.specs.Helpers.{answerAt}
 use Rattle.helpers_c.proofs.Cases.{answer-else}
 use Rattle.helpers_c.proofs.answer.Statement.{statement}

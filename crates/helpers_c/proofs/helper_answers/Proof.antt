@@ -5,7 +5,7 @@ use native.Mathlib.Omega.{arith}
 use borrow.Author.Needs.{needs}
 use lib.ListN.{length}
 use Rattle.utils.specs.Units.{lutPitchRatioHigh, lutPitchRatioLow}
-use Rattle.oscillator.specs.Sine.{lutSine}
+use Rattle.sine_oscillator.specs.Sine.{lutSine}
 use Rattle.helpers_c.specs.Helpers.{answerAt}
 use Rattle.helpers_c.proofs.Answers.{Going, begins, goes-on, ends}
 use Rattle.helpers_c.proofs.helper_answers.Statement.{statement}

@@ -1,5 +1,5 @@
 -- `keep` compares and then puts in a row's kept words, by `put-is`.
-use Rattle.words.proofs.Copying.{put-is}
+use Rattle.lists.proofs.Copying.{put-is}
 use Rattle.voice.specs.Voice.{keptCount}
 use native.Mathlib.Omega.{arith}
 use Prim.Native.Nat.{_+_, _-_, _*_}

@@ -1,6 +1,6 @@
 -- `render_row` is the definition's row, put into the take: by the contracts of the calls that it makes and the law `row-done`.
 use Rattle.runs.proofs.Making.{blocks, place-most, row-done}
-use Rattle.words.proofs.Copying.{put-is}
+use Rattle.lists.proofs.Copying.{put-is}
 use native.Mathlib.Omega.{arith}
 use mathlib.Core.Path.{refl}
 use borrow.Author.Needs.{needs}

@@ -5,7 +5,7 @@ use borrow.Author.Needs.{needs}
 use lib.Ieee.{nan}
 use native.Mathlib.Omega.{arith}
 use Rattle.waves.specs.Stages.{mixAt}
-use Rattle.oscillator.proofs.Runs.{Filling, filling-none, filling-more}
+use Rattle.utils.proofs.Runs.{Filling, filling-none, filling-more}
 use Rattle.waves.proofs.fold_all.Statement.{statement}
 use Rattle.waves.proofs.fold_all.Tie as tie
 

@@ -1,6 +1,6 @@
 -- `put_row` puts a row's words into row k's part, by `put-is`.
 use borrow.Author.Needs.{needs}
-use Rattle.words.proofs.Copying.{put-is}
+use Rattle.lists.proofs.Copying.{put-is}
 use Rattle.score.proofs.rows.put_row.Statement.{statement}
 use Rattle.score.proofs.rows.put_row.Tie as tie
 

@@ -4,7 +4,7 @@ use Prim.Native.Nat.{_-_}
 use borrow.Author.Tests.{eq-eqb, ne-eqb}
 use borrow.Author.Needs.{needs}
 use lib.ListN.{length}
-use Rattle.words.proofs.Copying.{Alike, alike-none, alike-more, alike-not, alike-all}
+use Rattle.lists.proofs.Copying.{Alike, alike-none, alike-more, alike-not, alike-all}
 use Rattle.text.proofs.Columns.{other-lengths}
 use Rattle.text.proofs.pieces.same.Statement.{statement}
 use Rattle.text.proofs.pieces.same.Tie as tie

@@ -2,7 +2,7 @@
 use mathlib.Core.Path.{_≡_, sym}
 use lib.Ieee.{nan, binary32, ofBits}
 use Rattle.words.specs.Binary32.{decimal}
-use Rattle.oscillator.proofs.Runs.{run-taken}
+use Rattle.utils.proofs.Runs.{run-taken}
 use Rattle.wave_terrain_engine.specs.Block.{scale}
 use Rattle.wave_terrain_engine.proofs.Blocks.{block-renders}
 use Rattle.wave_terrain_engine.proofs.Constants.{scale-half}

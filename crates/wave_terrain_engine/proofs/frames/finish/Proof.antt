@@ -5,7 +5,7 @@ use Prim.Native.Nat.{_-_, _≤_, zero-le}
 use mathlib.Core.Path.{_≡_, ap, _∙_}
 use lib.ListN.{length}
 use lib.Ieee.{binary32, toBits}
-use Rattle.oscillator.proofs.Runs.{Filling, filling-none, filling-more}
+use Rattle.utils.proofs.Runs.{Filling, filling-none, filling-more}
 use Rattle.wave_terrain_engine.specs.Stages.{stageAux}
 use Rattle.wave_terrain_engine.proofs.frames.finish.Statement.{statement}
 use Rattle.wave_terrain_engine.proofs.frames.finish.Tie as tie

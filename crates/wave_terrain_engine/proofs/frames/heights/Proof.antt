@@ -6,7 +6,7 @@ use mathlib.Core.Path.{_≡_, ap, _∙_}
 use lib.Ieee.{nan}
 use Rattle.utils.specs.Frames.{sumOf}
 use Rattle.utils.proofs.Sums.{most-more, most-plus}
-use Rattle.oscillator.proofs.Runs.{Filling, filling-none, filling-more}
+use Rattle.utils.proofs.Runs.{Filling, filling-none, filling-more}
 use Rattle.terrain.specs.declared.Reading.{Reading}
 use Rattle.wave_terrain_engine.specs.Stages.{stageHeight}
 use Rattle.utils.proofs.Frames.{count-none, count-more}

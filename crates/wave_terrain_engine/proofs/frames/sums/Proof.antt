@@ -5,7 +5,7 @@ use Prim.Native.Nat.{_-_, _≤_, zero-le}
 use mathlib.Core.Path.{_≡_, _∙_}
 use lib.ListN.{length}
 use lib.Ieee.{nan}
-use Rattle.oscillator.proofs.Runs.{Filling, filling-none, filling-more}
+use Rattle.utils.proofs.Runs.{Filling, filling-none, filling-more}
 use Rattle.wave_terrain_engine.specs.Stages.{stagePhase, stageOut}
 use Rattle.wave_terrain_engine.proofs.frames.sums.Statement.{statement}
 use Rattle.wave_terrain_engine.proofs.frames.sums.Tie as tie

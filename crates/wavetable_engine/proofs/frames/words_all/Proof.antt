@@ -6,7 +6,7 @@ use lib.ListN.{length, getD}
 use native.Mathlib.Omega.{arith}
 use Prim.Native.Nat.{_≤_, _-_}
 use Rattle.wavetable_engine.specs.Wavetable.{lofi}
-use Rattle.oscillator.proofs.Runs.{Filling, filling-none, filling-more}
+use Rattle.utils.proofs.Runs.{Filling, filling-none, filling-more}
 use Rattle.wavetable_engine.proofs.frames.words_all.Statement.{statement}
 use Rattle.wavetable_engine.proofs.frames.words_all.Tie as tie
 

@@ -6,7 +6,7 @@ use Prim.Native.Nat.{_≤_, _-_}
 use lib.Ieee.{nan, binary32, ofBits, toBits}
 use lib.ListN.{length, getD}
 use Rattle.words.specs.Binary32.{decimal}
-use Rattle.oscillator.proofs.Runs.{Filling, filling-none, filling-more}
+use Rattle.utils.proofs.Runs.{Filling, filling-none, filling-more}
 use Rattle.wavetable_oscillator.specs.Oscillator.{sampleOf}
 use Rattle.wavetable_oscillator.proofs.frames.words_all.Statement.{statement}
 use Rattle.wavetable_oscillator.proofs.frames.words_all.Tie as tie

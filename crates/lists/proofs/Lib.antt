@@ -1,0 +1,4 @@
+-- What the proofs of this crate share.
+pub mod Cases
+pub mod Copying
+pub mod Places
