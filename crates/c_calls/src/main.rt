@@ -17,17 +17,11 @@ fn print_values(call: &[u8], number: u32, first: u64, second: u64) {
     say(b"\n");
 }
 
-// Every word of a buffer.
-fn print_words(name: &[u8], words: &[u32]) {
-    say(name);
-    say_words(words);
-    say(b"\n");
-}
-
+// Every word of a take.
 fn print_take(out: &[u32], aux: &[u32], kept: &[u32]) {
-    print_words(b"out", out);
-    print_words(b"aux", aux);
-    print_words(b"kept", kept);
+    say_words(b"out", out);
+    say_words(b"aux", aux);
+    say_words(b"kept", kept);
 }
 
 fn read(text: &[u8], rows: &mut [u32]) {
@@ -35,7 +29,7 @@ fn read(text: &[u8], rows: &mut [u32]) {
     let mut second = UNWRITTEN;
     let number = retake_c::retake_read_score(text, rows, &mut first, &mut second);
     print_values(b"read", number, first, second);
-    print_words(b"rows", rows);
+    say_words(b"rows", rows);
 }
 
 fn render(
@@ -103,7 +97,7 @@ fn edit(
         &mut second,
     );
     print_values(b"edit", number, first, second);
-    print_words(b"rows", rows);
+    say_words(b"rows", rows);
     print_take(out, aux, kept);
 }
 

@@ -4,8 +4,8 @@ use rows::Settings;
 use take::Answer;
 use trial::fill_tables;
 use trial::say;
-use trial::say_number;
 use trial::say_same;
+use trial::say_two;
 
 const RATE: u32 = 48000;
 
@@ -24,14 +24,10 @@ fn settings(instrument: u32) -> Settings {
 fn show(a: Answer) {
     match a {
         Answer::Done(report) => {
-            say(b"done");
-            say_number(report.rows as u64);
-            say_number(report.holds.held as u64);
+            say_two(b"done", report.rows as u64, report.holds.held as u64);
         }
         Answer::Refused(refusal) => {
-            say(b"refused");
-            say_number(refusal.number as u64);
-            say_number(refusal.place as u64);
+            say_two(b"refused", refusal.number as u64, refusal.place as u64);
         }
     }
 }

@@ -12,6 +12,7 @@ use trial::copy_words;
 use trial::fill_tables;
 use trial::say;
 use trial::say_number;
+use trial::say_two;
 use trial::sum_of_words;
 use trial::word;
 
@@ -48,9 +49,7 @@ fn print_answer(answer: Answer) {
             say_number(report.holds.held as u64);
         }
         Answer::Refused(refusal) => {
-            say(b" refused");
-            say_number(refusal.number as u64);
-            say_number(refusal.place as u64);
+            say_two(b" refused", refusal.number as u64, refusal.place as u64);
         }
     }
 }

@@ -4,9 +4,11 @@
 use libc::STDIN_FILENO;
 use reader::ReadAnswer;
 use trial::after;
+use trial::all_are;
 use trial::say;
 use trial::say_hex_words;
 use trial::say_number;
+use trial::say_two;
 use trial::text_end;
 ghost use Prim.Native.Nat.{_≤_};
 ghost use lib.ListN.{length};
@@ -17,17 +19,6 @@ const FILL: u32 = 0xaaaaaaaa;
 // 36 bytes of names and 45 for each line.
 const LONG_TEXT: usize = 36 + 45 * 4098;
 
-fn kept(words: &[u32]) -> bool {
-    let mut i = 0;
-    while i < words.len() {
-        if words[i] != FILL {
-            return false;
-        }
-        i += 1;
-    }
-    true
-}
-
 // The answer's line; after a success each lent word, after a refusal whether they all are as they were.
 fn show(answer: ReadAnswer, words: &[u32]) {
     match answer {
@@ -37,10 +28,8 @@ fn show(answer: ReadAnswer, words: &[u32]) {
             say_hex_words(words);
         }
         ReadAnswer::Refused(r) => {
-            say(b"refused");
-            say_number(r.number as u64);
-            say_number(r.place as u64);
-            if kept(words) {
+            say_two(b"refused", r.number as u64, r.place as u64);
+            if all_are(FILL, words) {
                 say(b" kept");
             } else {
                 say(b" changed");

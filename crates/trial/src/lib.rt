@@ -16,18 +16,27 @@ pub fn say_number(n: u64) {
     io::print_decimal(STDOUT_FILENO, n);
 }
 
+// Writes a text and two numbers, each with a space before it.
+pub fn say_two(text: &[u8], first: u64, second: u64) {
+    say(text);
+    say_number(first);
+    say_number(second);
+}
+
 // Writes a space and a word in decimal.
 fn say_word(w: u32) {
     say_number(w as u64);
 }
 
-// Writes each word, with a space before it.
-pub fn say_words(words: &[u32]) {
+// Writes a line: a text, and each word with a space before it.
+pub fn say_words(text: &[u8], words: &[u32]) {
+    say(text);
     let mut i = 0;
     while i < words.len() {
         say_word(words[i]);
         i += 1;
     }
+    say(b"\n");
 }
 
 // Writes a space and a word's eight hexadecimal digits.
@@ -65,6 +74,18 @@ pub fn say_same(text: &[u8], a: &[u32], b: &[u32]) {
     if same(a, b) {
         say(text);
     }
+}
+
+// Whether each word is `w`.
+pub fn all_are(w: u32, words: &[u32]) -> bool {
+    let mut i = 0;
+    while i < words.len() {
+        if words[i] != w {
+            return false;
+        }
+        i += 1;
+    }
+    true
 }
 
 // The next number of a series that any language can make: s = 1664525 s + 1013904223 mod 2^32.

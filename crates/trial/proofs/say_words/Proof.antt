@@ -6,10 +6,15 @@ use Rattle.trial.proofs.say_words.Statement.{statement}
 use Rattle.trial.proofs.say_words.Tie as tie
 
 abbrev Inv-loop : tie.InvT-loop
-Inv-loop words i₀ i = i ≤ length words
+Inv-loop text words i₀ t4 i =
+    i ≤ length words
 
 abbrev μ-loop : tie.MeasureT-loop
-μ-loop words i₀ i = length words - i
+μ-loop text words i₀ t4 i =
+    length words - i
+
+say-requires : tie.Need-say-requires Inv-loop μ-loop
+say-requires c κs = search needs
 
 loop-holds : tie.Need-loop-holds Inv-loop μ-loop
 loop-holds c = search needs
@@ -32,6 +37,12 @@ loop-less c = search needs
 loop-again : tie.Need-loop-again Inv-loop μ-loop
 loop-again c = search needs
 
+slice-aggregate-say : tie.Need-slice-aggregate-say Inv-loop μ-loop
+slice-aggregate-say c = search needs
+
+say-requires-2 : tie.Need-say-requires-2 Inv-loop μ-loop
+say-requires-2 c κs = search needs
+
 returns : tie.Need-returns Inv-loop μ-loop
 returns c = search needs
 
@@ -41,6 +52,7 @@ say-words-spec =
     (tie.spec
     Inv-loop
     μ-loop
+    say-requires
     loop-holds
     mul-say-word
     shared-slice-read-say-word
@@ -48,4 +60,6 @@ say-words-spec =
     add-i
     loop-less
     loop-again
+    slice-aggregate-say
+    say-requires-2
     returns)
