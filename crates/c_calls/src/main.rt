@@ -1,60 +1,27 @@
 // Calls the C functions by position, each with arguments that are all different, and prints what they return, what they write to `first` and
 // `second`, and every lent word. A contract speaks of a parameter by its name, C binds it by its place: two parameters that change places show here.
-ghost use mathlib.Core.Path.{_≡_};
-ghost use lib.ListN.{length};
-use libc::STDOUT_FILENO;
+use trial::fill_waves;
+use trial::say;
+use trial::say_number;
+use trial::say_words;
 
 // What stands in a result before a call writes it.
 const UNWRITTEN: u64 = 77;
 
-fn print(text: &[u8]) {
-    io::write_all(STDOUT_FILENO, text);
-}
-
-fn print_number(n: u64) {
-    print(b" ");
-    io::print_decimal(STDOUT_FILENO, n);
-}
-
 // What a call returned and wrote to its two results.
 fn print_values(call: &[u8], number: u32, first: u64, second: u64) {
-    print(call);
-    print_number(number as u64);
-    print_number(first);
-    print_number(second);
-    print(b"\n");
+    say(call);
+    say_number(number as u64);
+    say_number(first);
+    say_number(second);
+    say(b"\n");
 }
 
-fn print_word(w: u32) {
-    print_number(w as u64);
-}
-
-// Every word of a buffer.
-fn print_words(name: &[u8], words: &[u32]) {
-    print(name);
-    let mut i = 0;
-    while i < words.len() {
-        print_word(words[i]);
-        i += 1;
-    }
-    print(b"\n");
-}
-
+// Every word of a take.
 fn print_take(out: &[u32], aux: &[u32], kept: &[u32]) {
-    print_words(b"out", out);
-    print_words(b"aux", aux);
-    print_words(b"kept", kept);
-}
-
-// A bank whose samples go up and down.
-fn fill_bank(bank: &mut [i16])
-    requires { ⌜ length (now bank) ≡ 25344 ⌝ }
-{
-    let mut i = 0;
-    while i < bank.len() {
-        bank[i] = (i * 7919 % 32749) as i16;
-        i += 1;
-    }
+    say_words(b"out", out);
+    say_words(b"aux", aux);
+    say_words(b"kept", kept);
 }
 
 fn read(text: &[u8], rows: &mut [u32]) {
@@ -62,7 +29,7 @@ fn read(text: &[u8], rows: &mut [u32]) {
     let mut second = UNWRITTEN;
     let number = retake_c::retake_read_score(text, rows, &mut first, &mut second);
     print_values(b"read", number, first, second);
-    print_words(b"rows", rows);
+    say_words(b"rows", rows);
 }
 
 fn render(
@@ -130,7 +97,7 @@ fn edit(
         &mut second,
     );
     print_values(b"edit", number, first, second);
-    print_words(b"rows", rows);
+    say_words(b"rows", rows);
     print_take(out, aux, kept);
 }
 
@@ -234,7 +201,7 @@ fn read_texts() {
 fn main() {
     read_texts();
     let mut bank = [0i16; 25344];
-    fill_bank(&mut bank);
+    fill_waves(&mut bank);
     let map = [90u8; 4096];
     let row = [0x42600000, 0x3f400000, 0x3e800000, 0x3f000000, 1];
     play(0, 48000, &bank, &map[..0], row);

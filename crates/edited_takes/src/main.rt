@@ -1,9 +1,11 @@
 // Lists of edits on all three instruments. After the rendering and after each edit the take is compared, word by word, with one that is
 // rendered afresh into other words.
-ghost use Prim.Native.Nat.{_<_};
-use libc::STDOUT_FILENO;
 use rows::Settings;
 use take::Answer;
+use trial::fill_tables;
+use trial::say;
+use trial::say_same;
+use trial::say_two;
 
 const RATE: u32 = 48000;
 
@@ -18,70 +20,14 @@ fn settings(instrument: u32) -> Settings {
     }
 }
 
-// Whether two runs of words are the same.
-fn same(a: &[u32], b: &[u32]) -> bool {
-    if a.len() != b.len() {
-        return false;
-    }
-    let mut i = 0;
-    while i < a.len() {
-        if a[i] != b[i] {
-            return false;
-        }
-        i += 1;
-    }
-    true
-}
-
-// The next of a row of numbers below 2^31 that look random.
-fn following(x: u64) -> u64
-    requires { ⌜ x < 2147483648 ⌝ }
-    ensures { λ r. ⌜ r < 2147483648 ⌝ }
-{
-    (x * 1103515245 + 12345) % 2147483648
-}
-
-// A wave of a bank, from a number below 2^31.
-fn sample(x: u64) -> i16
-    requires { ⌜ x < 2147483648 ⌝ }
-{
-    let high = x / 65536;
-    high as i16
-}
-
-fn fill_bank(bank: &mut [i16]) {
-    let mut x = 1;
-    let mut i = 0;
-    while i < bank.len() {
-        x = following(x);
-        bank[i] = sample(x);
-        i += 1;
-    }
-}
-
-fn fill_map(map: &mut [u8]) {
-    let mut x = 2;
-    let mut i = 0;
-    while i < map.len() {
-        x = following(x);
-        map[i] = (x / 8388608) as u8;
-        i += 1;
-    }
-}
-
+// What a call answered.
 fn show(a: Answer) {
     match a {
         Answer::Done(report) => {
-            io::write_all(STDOUT_FILENO, b"done ");
-            io::print_decimal(STDOUT_FILENO, report.rows as u64);
-            io::write_all(STDOUT_FILENO, b" ");
-            io::print_decimal(STDOUT_FILENO, report.holds.held as u64);
+            say_two(b"done", report.rows as u64, report.holds.held as u64);
         }
         Answer::Refused(refusal) => {
-            io::write_all(STDOUT_FILENO, b"refused ");
-            io::print_decimal(STDOUT_FILENO, refusal.number as u64);
-            io::write_all(STDOUT_FILENO, b" ");
-            io::print_decimal(STDOUT_FILENO, refusal.place as u64);
+            say_two(b"refused", refusal.number as u64, refusal.place as u64);
         }
     }
 }
@@ -108,19 +54,10 @@ fn compare(
         &mut fresh_aux,
         &mut fresh_kept,
     );
-    let words = same(out, &fresh_out);
-    if words {
-        io::write_all(STDOUT_FILENO, b" out");
-    }
-    let words = same(aux, &fresh_aux);
-    if words {
-        io::write_all(STDOUT_FILENO, b" aux");
-    }
-    let words = same(kept, &fresh_kept);
-    if words {
-        io::write_all(STDOUT_FILENO, b" kept");
-    }
-    io::write_all(STDOUT_FILENO, b"\n");
+    say_same(b" out", out, &fresh_out);
+    say_same(b" aux", aux, &fresh_aux);
+    say_same(b" kept", kept, &fresh_kept);
+    say(b"\n");
 }
 
 // An edit, shown and compared.
@@ -357,9 +294,8 @@ fn list(instrument: u32, bank: &[i16], map: &[u8]) {
 
 fn main() {
     let mut bank = [0i16; 25344];
-    fill_bank(&mut bank);
     let mut map = [0u8; 4096];
-    fill_map(&mut map);
+    fill_tables(1, &mut bank, &mut map);
     let none = [0u8; 0];
     list(0, &bank, &none);
     list(1, &bank, &none);

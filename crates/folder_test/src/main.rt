@@ -9,6 +9,7 @@ use inputs::BANK_BYTES;
 use inputs::MOST_TEXT;
 use retake_lib::BANK_ROOM;
 use retake_lib::TEXT_ROOM;
+use trial::fill_bytes;
 use trial::say;
 use trial::say_number;
 use trial::sum_of;
@@ -37,9 +38,7 @@ fn show(name: &[u8]) {
     libc::close(fd);
     let mut bytes = [0u8; 16384];
     let n = read_file(name, &mut bytes);
-    say(b" ");
     say_number(n as u64);
-    say(b" ");
     say_number(sum_of(&bytes[..n]));
     say(b"\n");
 }
@@ -148,7 +147,7 @@ fn main() {
     let mut bank = [0u8; BANK_ROOM];
     let score_bytes = read_file(b"score.txt", &mut score);
     let edits_bytes = read_file(b"edits.txt", &mut edits);
-    trial::fill_bank(&mut bank);
+    fill_bytes(1, &mut bank);
     run_accepted(&score, score_bytes, &edits, edits_bytes, &bank);
     run_refused(&score, score_bytes, &edits, edits_bytes, &bank);
 }

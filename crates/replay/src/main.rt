@@ -5,11 +5,16 @@
 // five words; m edits of six words, the row's number and then its five words. The bank and the map of a score come from its seed.
 ghost use mathlib.Core.Path.{_≡_};
 ghost use Prim.Native.Nat.{_+_, _≤_, _<_};
-ghost use lib.ListN.{length};
 use libc::STDIN_FILENO;
-use libc::STDOUT_FILENO;
 use rows::Settings;
 use take::Answer;
+use trial::copy_words;
+use trial::fill_tables;
+use trial::say;
+use trial::say_number;
+use trial::say_two;
+use trial::sum_of_words;
+use trial::word;
 
 const BANK: usize = 25344;
 
@@ -36,116 +41,24 @@ struct Score {
     at: usize,
 }
 
-// A byte as a word.
-fn wide(x: u8) -> u32
-    ensures { λ r. ⌜ r < 256 ⌝ }
-{
-    x as u32
-}
-
-// The word at byte `at` of a file, 0 past its end.
-fn word(file: &[u8], at: usize) -> u32 {
-    if at < file.len() {
-        if 3 < file.len() - at {
-            let low = wide(file[at]) + wide(file[at + 1]) * 256;
-            let high = wide(file[at + 2]) + wide(file[at + 3]) * 256;
-            return low + high * 65536;
-        }
-    }
-    0
-}
-
-// The next number of a series that any language can make.
-fn next(s: u32) -> u32 {
-    (((s as u64) * 1664525 + 1013904223) % 4294967296) as u32
-}
-
-// The bytes of a bank: each sample is the upper half of a number of the series, less 32,768. Gives the number that the series has come to.
-fn fill_bank(seed: u32, bytes: &mut [u8]) -> u32
-    requires { ⌜ length (now bytes) ≡ 50688 ⌝ }
-{
-    let mut s = seed;
-    let mut i = 0;
-    while i < BANK {
-        s = next(s);
-        let n = (s / 65536 + 32768) % 65536;
-        bytes[i * 2] = (n % 256) as u8;
-        bytes[i * 2 + 1] = (n / 256) as u8;
-        i += 1;
-    }
-    s
-}
-
-// The bytes of a map: each is the highest byte of a number of the series.
-fn fill_map(seed: u32, map: &mut [u8]) {
-    let mut s = seed;
-    let mut i = 0;
-    while i < map.len() {
-        s = next(s);
-        map[i] = (s / 16777216) as u8;
-        i += 1;
-    }
-}
-
-// Words of the file, from byte `at` on, into as many places.
-fn copy_words(file: &[u8], at: usize, rows: &mut [u32])
-    requires { ⌜ at < 1000000 ⌝ }
-{
-    let mut i = 0;
-    while i < rows.len() {
-        rows[i] = word(file, at + i * 4);
-        i += 1;
-    }
-}
-
-// A check number, with one word more.
-fn mixed(h: u64, w: u32) -> u64
-    requires { ⌜ h < 4294967291 ⌝ }
-    ensures { λ r. ⌜ r < 4294967291 ⌝ }
-{
-    (65599 * h + (w as u64)) % 4294967291
-}
-
-// A number that tells one list of words from another.
-fn check(words: &[u32]) -> u64 {
-    let mut h = 0;
-    let mut i = 0;
-    while i < words.len() {
-        h = mixed(h, words[i]);
-        i += 1;
-    }
-    h
-}
-
-fn print(text: &[u8]) {
-    io::write_all(STDOUT_FILENO, text);
-}
-
-fn print_number(n: u64) {
-    print(b" ");
-    io::print_decimal(STDOUT_FILENO, n);
-}
-
 // The two numbers of a call's success, or of its refusal.
 fn print_answer(answer: Answer) {
     match answer {
         Answer::Done(report) => {
-            print_number(report.rows as u64);
-            print_number(report.holds.held as u64);
+            say_number(report.rows as u64);
+            say_number(report.holds.held as u64);
         }
         Answer::Refused(refusal) => {
-            print(b" refused");
-            print_number(refusal.number as u64);
-            print_number(refusal.place as u64);
+            say_two(b" refused", refusal.number as u64, refusal.place as u64);
         }
     }
 }
 
 fn print_take(out: &[u32], aux: &[u32], kept: &[u32]) {
-    print_number(check(out));
-    print_number(check(aux));
-    print_number(check(kept));
-    print(b"\n");
+    say_number(sum_of_words(out));
+    say_number(sum_of_words(aux));
+    say_number(sum_of_words(kept));
+    say(b"\n");
 }
 
 // A score's settings.
@@ -190,10 +103,10 @@ fn edit_one(
         aux,
         kept,
     );
-    print(b"edit");
-    print_number(position as u64);
+    say(b"edit");
+    say_number(position as u64);
     print_answer(answer);
-    print(b"\n");
+    say(b"\n");
 }
 
 // The edits of a score that was rendered, which stand at byte `from`.
@@ -251,7 +164,7 @@ fn render_one(
     kept: &mut [u32],
 ) {
     let answer = take::render(settings(s), bank, map, rows, out, aux, kept);
-    print(b"render");
+    say(b"render");
     print_answer(answer);
     print_take(out, aux, kept);
 }
@@ -259,7 +172,7 @@ fn render_one(
 // The line of a take after its edits, where there were any.
 fn print_edited(edits: usize, out: &[u32], aux: &[u32], kept: &[u32]) {
     if edits > 0 {
-        print(b"take");
+        say(b"take");
         print_take(out, aux, kept);
     }
 }
@@ -282,16 +195,6 @@ fn perform(
     render_one(s, bank, map, rows, out, aux, kept);
     edit_all(file, s, from, bank, map, rows, out, aux, kept);
     print_edited(s.edits, out, aux, kept);
-}
-
-// The bank and the map of a seed.
-fn fill_tables(seed: u32, bank: &mut [i16], map: &mut [u8])
-    requires { ⌜ length (now bank) ≡ 25344 ⌝ }
-{
-    let mut bytes = [0u8; BANK * 2];
-    let s = fill_bank(seed, &mut bytes);
-    formats::samples_of(&bytes, bank);
-    fill_map(s, map);
 }
 
 // The samples of a score of at most 64 rows and 128 frames.

@@ -11,10 +11,12 @@ use outputs::files::Place;
 use retake_lib::BANK_ROOM;
 use retake_lib::FILE_ROOM;
 use retake_lib::PRINTED_ROOM;
-use trial::fill_bank;
+use trial::after;
+use trial::fill_bytes;
 use trial::say;
 use trial::say_number;
 use trial::sum_of;
+use trial::text_end;
 ghost use Prim.Native.Nat.{_+_, _≤_, _<_};
 ghost use lib.ListN.{length};
 ghost use Rattle.inputs.specs.Inputs.{bankBytes};
@@ -47,11 +49,9 @@ fn show_placed(first: &[u8], place: Place, second: &[u8], other: Place)
     let end = place.end;
     let from = other.name;
     let to = other.end;
-    say(b"files ");
+    say(b"files");
     say_number((end - start) as u64);
-    say(b" ");
     say_number(sum_of(&first[start..end]));
-    say(b" ");
     say_number(sum_of(&second[from..to]));
     say(b"\n");
 }
@@ -78,48 +78,18 @@ fn run_case(score: &[u8], edits: &[u8], bank: &[u8]) {
     say(b"\n");
 }
 
-// The first byte from `from` on that ends a text, or the input's end.
-fn text_end(input: &[u8], from: usize) -> usize
-    requires { ⌜ from ≤ length (now input) ⌝ }
-    ensures { λ r. ⌜ (from ≤ r) × (r ≤ length (now (input .entry))) ⌝ }
-{
-    let mut i = from;
-    while i < input.len() {
-        let b = input[i];
-        if b == b'~' || b == b'=' || b == b'<' || b == b'>' || b == b'!' {
-            return i;
-        }
-        i += 1;
-    }
-    i
-}
-
-// The start of what comes after the byte at `end`.
-fn after(input: &[u8], end: usize) -> usize
-    requires { ⌜ end < length (now input) ⌝ }
-    ensures { λ r. ⌜ (end < r) × (r ≤ length (now (input .entry))) ⌝ }
-{
-    let next = end + 1;
-    if next < input.len() {
-        if input[next] == b'\n' {
-            return next + 1;
-        }
-    }
-    next
-}
-
 // Runs the case that starts at `from`; where the next one starts.
 fn run_at(input: &[u8], bank: &[u8], from: usize) -> usize
     requires { ⌜ from < length (now input) ⌝ }
     requires { ⌜ bankBytes < length (now bank) ⌝ }
     ensures { λ r. ⌜ (from < r) × (r ≤ length (now (input .entry))) ⌝ }
 {
-    let middle = text_end(input, from);
+    let middle = text_end(input, from, b"~=<>!");
     if middle == input.len() {
         return middle;
     }
     let second = middle + 1;
-    let end = text_end(input, second);
+    let end = text_end(input, second, b"~=<>!");
     if end == input.len() {
         return end;
     }
@@ -141,6 +111,6 @@ fn main() {
     let mut input = [0u8; INPUT_ROOM];
     let mut bank = [0u8; BANK_ROOM];
     let size = io::read_full(STDIN_FILENO, &mut input);
-    fill_bank(&mut bank);
+    fill_bytes(1, &mut bank);
     run_all(&input[..size], &bank);
 }

@@ -2,9 +2,15 @@
 // A text of standard input ends at the byte that says how it is read: `~` as a score into 20 words, `<` as one into 14, `@` as edits into 18.
 // An LF after that byte belongs to no text.
 use libc::STDIN_FILENO;
-use libc::STDOUT_FILENO;
 use reader::ReadAnswer;
-ghost use Prim.Native.Nat.{_≤_, _<_};
+use trial::after;
+use trial::all_are;
+use trial::say;
+use trial::say_hex_words;
+use trial::say_number;
+use trial::say_two;
+use trial::text_end;
+ghost use Prim.Native.Nat.{_≤_};
 ghost use lib.ListN.{length};
 
 // What stands in lent words before a call.
@@ -13,48 +19,17 @@ const FILL: u32 = 0xaaaaaaaa;
 // 36 bytes of names and 45 for each line.
 const LONG_TEXT: usize = 36 + 45 * 4098;
 
-fn say(text: &[u8]) {
-    io::write_all(STDOUT_FILENO, text);
-}
-
-fn show_words(words: &[u32]) {
-    let mut i = 0;
-    while i < words.len() {
-        say(b" ");
-        io::print_hex(STDOUT_FILENO, wide(words[i]), 8);
-        i += 1;
-    }
-}
-
-fn wide(w: u32) -> u64 {
-    w as u64
-}
-
-fn kept(words: &[u32]) -> bool {
-    let mut i = 0;
-    while i < words.len() {
-        if words[i] != FILL {
-            return false;
-        }
-        i += 1;
-    }
-    true
-}
-
 // The answer's line; after a success each lent word, after a refusal whether they all are as they were.
 fn show(answer: ReadAnswer, words: &[u32]) {
     match answer {
         ReadAnswer::Read(count) => {
-            say(b"read ");
-            io::print_decimal(STDOUT_FILENO, count as u64);
-            show_words(words);
+            say(b"read");
+            say_number(count as u64);
+            say_hex_words(words);
         }
         ReadAnswer::Refused(r) => {
-            say(b"refused ");
-            io::print_decimal(STDOUT_FILENO, r.number as u64);
-            say(b" ");
-            io::print_decimal(STDOUT_FILENO, r.place as u64);
-            if kept(words) {
+            say_two(b"refused", r.number as u64, r.place as u64);
+            if all_are(FILL, words) {
                 say(b" kept");
             } else {
                 say(b" changed");
@@ -80,40 +55,10 @@ fn run(text: &[u8], how: u8) {
     }
 }
 
-// The first byte from `from` on that ends a text, or the input's end.
-fn text_end(input: &[u8], from: usize) -> usize
-    requires { ⌜ from ≤ length (now input) ⌝ }
-    ensures { λ r. ⌜ (from ≤ r) × (r ≤ length (now (input .entry))) ⌝ }
-{
-    let mut i = from;
-    while i < input.len() {
-        let b = input[i];
-        if b == b'~' || b == b'<' || b == b'@' {
-            return i;
-        }
-        i += 1;
-    }
-    i
-}
-
-// The start of the text after the one that ends at `end`.
-fn after(input: &[u8], end: usize) -> usize
-    requires { ⌜ end < length (now input) ⌝ }
-    ensures { λ r. ⌜ (end < r) × (r ≤ length (now (input .entry))) ⌝ }
-{
-    let next = end + 1;
-    if next < input.len() {
-        if input[next] == b'\n' {
-            return next + 1;
-        }
-    }
-    next
-}
-
 fn run_all(input: &[u8]) {
     let mut from = 0;
     while from < input.len() {
-        let end = text_end(input, from);
+        let end = text_end(input, from, b"~<@");
         if end == input.len() {
             return;
         }

@@ -6,6 +6,9 @@ use borrow.Author.Needs.{needs}
 use Rattle.retake_test.proofs.run_at.Statement.{statement}
 use Rattle.retake_test.proofs.run_at.Tie as tie
 
+slice-aggregate-text-end : tie.Need-slice-aggregate-text-end
+slice-aggregate-text-end c = search needs
+
 text-end-requires : tie.Need-text-end-requires
 text-end-requires c κs = search needs
 
@@ -14,6 +17,9 @@ returns c = search needs
 
 add-second : tie.Need-add-second
 add-second c = search needs
+
+slice-aggregate-text-end-2 : tie.Need-slice-aggregate-text-end-2
+slice-aggregate-text-end-2 c = search needs
 
 text-end-requires-2 : tie.Need-text-end-requires-2
 text-end-requires-2 c κs = search needs
@@ -46,10 +52,7 @@ part-run-case-end-2 : tie.Need-part-run-case-end-2
 part-run-case-end-2 c = search needs
 
 slice-aggregate-run-case : tie.Need-slice-aggregate-run-case
-slice-aggregate-run-case c =
-    let bank = c .before .before .before in
-    let args = bank .before .before .before .before .before .before .before .before .args in
-    sym (length-take-le (bank .bank-length .result) (args .bank .now) (omega arith))
+slice-aggregate-run-case c = sym (length-take-le _ _ (omega arith))
 
 run-case-requires : tie.Need-run-case-requires
 run-case-requires c κs = search needs
@@ -64,9 +67,11 @@ pub run-at-spec : {M : Type 1} → statement M
 run-at-spec =
     tie.close
     (tie.spec
+    slice-aggregate-text-end
     text-end-requires
     returns
     add-second
+    slice-aggregate-text-end-2
     text-end-requires-2
     returns-2
     shared-slice-read-bank-length

@@ -6,13 +6,16 @@ use Rattle.score_test.proofs.run_all.Statement.{statement}
 use Rattle.score_test.proofs.run_all.Tie as tie
 
 abbrev Inv-loop : tie.InvT-loop
-Inv-loop input from₀ from = from ≤ length input
+Inv-loop input from₀ t4 from = from ≤ length input
 
 abbrev μ-loop : tie.MeasureT-loop
-μ-loop input from₀ from = length input - from
+μ-loop input from₀ t4 from = length input - from
 
 loop-holds : tie.Need-loop-holds Inv-loop μ-loop
 loop-holds c = search needs
+
+slice-aggregate-text-end : tie.Need-slice-aggregate-text-end Inv-loop μ-loop
+slice-aggregate-text-end c = search needs
 
 text-end-requires : tie.Need-text-end-requires Inv-loop μ-loop
 text-end-requires c κs = search needs
@@ -54,6 +57,7 @@ run-all-spec =
     Inv-loop
     μ-loop
     loop-holds
+    slice-aggregate-text-end
     text-end-requires
     returns
     sub-run

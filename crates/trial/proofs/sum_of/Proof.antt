@@ -1,7 +1,7 @@
--- `trial::sum_of` meets its contract: the sum stays below its modulus.
+-- A check number stays below its modulus.
+use Prim.Native.Nat.{_-_, _≤_, _<_}
 use lib.ListN.{length}
 use borrow.Author.Needs.{needs}
-use Prim.Native.Nat.{_≤_, _<_, _-_}
 use Rattle.trial.proofs.sum_of.Statement.{statement}
 use Rattle.trial.proofs.sum_of.Tie as tie
 
@@ -14,17 +14,14 @@ abbrev μ-loop : tie.MeasureT-loop
 loop-holds : tie.Need-loop-holds Inv-loop μ-loop
 loop-holds c = search needs
 
-mul-h : tie.Need-mul-h Inv-loop μ-loop
-mul-h c = search needs
-
 shared-slice-read-wide : tie.Need-shared-slice-read-wide Inv-loop μ-loop
 shared-slice-read-wide c = search needs
 
 wide-requires : tie.Need-wide-requires Inv-loop μ-loop
 wide-requires c κs = search needs
 
-add-h : tie.Need-add-h Inv-loop μ-loop
-add-h c = search needs
+mixed-requires : tie.Need-mixed-requires Inv-loop μ-loop
+mixed-requires c κs = search needs
 
 add-i : tie.Need-add-i Inv-loop μ-loop
 add-i c = search needs
@@ -45,10 +42,9 @@ sum-of-spec =
     Inv-loop
     μ-loop
     loop-holds
-    mul-h
     shared-slice-read-wide
     wide-requires
-    add-h
+    mixed-requires
     add-i
     loop-less
     loop-again

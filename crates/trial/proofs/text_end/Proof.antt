@@ -1,21 +1,24 @@
--- `score_test::text_end` is safe and ends.
+-- The place stays within the input.
 use Prim.Native.Nat.{_-_, _≤_}
 use lib.ListN.{length}
 use borrow.Author.Needs.{needs}
-use Rattle.score_test.proofs.text_end.Statement.{statement}
-use Rattle.score_test.proofs.text_end.Tie as tie
+use Rattle.trial.proofs.text_end.Statement.{statement}
+use Rattle.trial.proofs.text_end.Tie as tie
 
 abbrev Inv-loop : tie.InvT-loop
-Inv-loop input from i₀ i = (from ≤ i) × (i ≤ length input)
+Inv-loop input from marks i₀ i = (from ≤ i) × (i ≤ length input)
 
 abbrev μ-loop : tie.MeasureT-loop
-μ-loop input from i₀ i = length input - i
+μ-loop input from marks i₀ i = length input - i
 
 loop-holds : tie.Need-loop-holds Inv-loop μ-loop
 loop-holds c = search needs
 
-shared-slice-read-b : tie.Need-shared-slice-read-b Inv-loop μ-loop
-shared-slice-read-b c = search needs
+shared-slice-read-is-mark : tie.Need-shared-slice-read-is-mark Inv-loop μ-loop
+shared-slice-read-is-mark c = search needs
+
+is-mark-requires : tie.Need-is-mark-requires Inv-loop μ-loop
+is-mark-requires c κs = search needs
 
 returns : tie.Need-returns Inv-loop μ-loop
 returns c = search needs
@@ -39,7 +42,8 @@ text-end-spec =
     Inv-loop
     μ-loop
     loop-holds
-    shared-slice-read-b
+    shared-slice-read-is-mark
+    is-mark-requires
     returns
     add-i
     loop-less

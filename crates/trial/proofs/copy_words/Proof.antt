@@ -1,16 +1,16 @@
--- Each place of `rows` is within it, and four bytes for each place end below the largest number.
+-- Each place of `words` is within it, and four bytes for each place end below the largest number.
 use Prim.Native.Nat.{_-_, _≤_}
 use mathlib.Core.Path.{_≡_}
 use lib.ListN.{length}
 use borrow.Author.Needs.{needs}
-use Rattle.replay.proofs.copy_words.Statement.{statement}
-use Rattle.replay.proofs.copy_words.Tie as tie
+use Rattle.trial.proofs.copy_words.Statement.{statement}
+use Rattle.trial.proofs.copy_words.Tie as tie
 
 abbrev Inv-loop : tie.InvT-loop
-Inv-loop file at rows₀ i₀ rows i = (i ≤ length rows₀) × (length rows ≡ length rows₀)
+Inv-loop file at words₀ i₀ words i = (i ≤ length words₀) × (length words ≡ length words₀)
 
 abbrev μ-loop : tie.MeasureT-loop
-μ-loop file at rows₀ i₀ rows i = length rows₀ - i
+μ-loop file at words₀ i₀ words i = length words₀ - i
 
 loop-holds : tie.Need-loop-holds Inv-loop μ-loop
 loop-holds c = search needs
@@ -24,11 +24,11 @@ add-word c = search needs
 word-requires : tie.Need-word-requires Inv-loop μ-loop
 word-requires c κs = search needs
 
-mul-rows : tie.Need-mul-rows Inv-loop μ-loop
-mul-rows c = search needs
+mul-words : tie.Need-mul-words Inv-loop μ-loop
+mul-words c = search needs
 
-slice-write-rows : tie.Need-slice-write-rows Inv-loop μ-loop
-slice-write-rows c = search needs
+slice-write-words : tie.Need-slice-write-words Inv-loop μ-loop
+slice-write-words c = search needs
 
 add-i : tie.Need-add-i Inv-loop μ-loop
 add-i c = search needs
@@ -55,8 +55,8 @@ copy-words-spec =
     mul-word
     add-word
     word-requires
-    mul-rows
-    slice-write-rows
+    mul-words
+    slice-write-words
     add-i
     loop-less
     loop-again

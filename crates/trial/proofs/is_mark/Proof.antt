@@ -1,21 +1,21 @@
--- `retake_test::text_end` meets its contract: the place stays within the input.
+-- `is_mark` ends and reads within its bytes.
+use Prim.Native.Nat.{_-_, _≤_}
 use lib.ListN.{length}
 use borrow.Author.Needs.{needs}
-use Prim.Native.Nat.{_≤_, _-_}
-use Rattle.retake_test.proofs.text_end.Statement.{statement}
-use Rattle.retake_test.proofs.text_end.Tie as tie
+use Rattle.trial.proofs.is_mark.Statement.{statement}
+use Rattle.trial.proofs.is_mark.Tie as tie
 
 abbrev Inv-loop : tie.InvT-loop
-Inv-loop input from i₀ i = (from ≤ i) × (i ≤ length input)
+Inv-loop b marks i₀ i = i ≤ length marks
 
 abbrev μ-loop : tie.MeasureT-loop
-μ-loop input from i₀ i = length input - i
+μ-loop b marks i₀ i = length marks - i
 
 loop-holds : tie.Need-loop-holds Inv-loop μ-loop
 loop-holds c = search needs
 
-shared-slice-read-b : tie.Need-shared-slice-read-b Inv-loop μ-loop
-shared-slice-read-b c = search needs
+shared-slice-read-if1 : tie.Need-shared-slice-read-if1 Inv-loop μ-loop
+shared-slice-read-if1 c = search needs
 
 returns : tie.Need-returns Inv-loop μ-loop
 returns c = search needs
@@ -32,14 +32,14 @@ loop-again c = search needs
 returns-2 : tie.Need-returns-2 Inv-loop μ-loop
 returns-2 c = search needs
 
-pub text-end-spec : {M : Type 1} → statement M
-text-end-spec =
+pub is-mark-spec : {M : Type 1} → statement M
+is-mark-spec =
     tie.close
     (tie.spec
     Inv-loop
     μ-loop
     loop-holds
-    shared-slice-read-b
+    shared-slice-read-if1
     returns
     add-i
     loop-less

@@ -1,15 +1,15 @@
--- `score_test::kept` is safe and ends.
+-- `all_are` ends and reads within its words.
 use Prim.Native.Nat.{_-_, _≤_}
 use lib.ListN.{length}
 use borrow.Author.Needs.{needs}
-use Rattle.score_test.proofs.kept.Statement.{statement}
-use Rattle.score_test.proofs.kept.Tie as tie
+use Rattle.trial.proofs.all_are.Statement.{statement}
+use Rattle.trial.proofs.all_are.Tie as tie
 
 abbrev Inv-loop : tie.InvT-loop
-Inv-loop words i₀ i = i ≤ length words
+Inv-loop w words i₀ i = i ≤ length words
 
 abbrev μ-loop : tie.MeasureT-loop
-μ-loop words i₀ i = length words - i
+μ-loop w words i₀ i = length words - i
 
 loop-holds : tie.Need-loop-holds Inv-loop μ-loop
 loop-holds c = search needs
@@ -35,8 +35,8 @@ loop-again c = search needs
 returns-2 : tie.Need-returns-2 Inv-loop μ-loop
 returns-2 c = search needs
 
-pub kept-spec : {M : Type 1} → statement M
-kept-spec =
+pub all-are-spec : {M : Type 1} → statement M
+all-are-spec =
     tie.close
     (tie.spec
     Inv-loop

@@ -2,8 +2,8 @@
 use Prim.Native.Nat.{_-_, _≤_, _<_}
 use lib.ListN.{length}
 use borrow.Author.Needs.{needs}
-use Rattle.replay.proofs.check.Statement.{statement}
-use Rattle.replay.proofs.check.Tie as tie
+use Rattle.trial.proofs.sum_of_words.Statement.{statement}
+use Rattle.trial.proofs.sum_of_words.Tie as tie
 
 abbrev Inv-loop : tie.InvT-loop
 Inv-loop words h₀ i₀ h i = (i ≤ length words) × (h < 4294967291)
@@ -35,8 +35,8 @@ loop-again c = search needs
 returns : tie.Need-returns Inv-loop μ-loop
 returns c = search needs
 
-pub check-spec : {M : Type 1} → statement M
-check-spec =
+pub sum-of-words-spec : {M : Type 1} → statement M
+sum-of-words-spec =
     tie.close
     (tie.spec
     Inv-loop

@@ -1,10 +1,10 @@
--- `fill_bank` ends and stays within the bank, whose length stays.
+-- `fill_waves` ends and stays within the bank, whose length stays.
 use Prim.Native.Nat.{_-_, _≤_}
 use mathlib.Core.Path.{_≡_}
 use lib.ListN.{length}
 use borrow.Author.Needs.{needs}
-use Rattle.c_calls.proofs.fill_bank.Statement.{statement}
-use Rattle.c_calls.proofs.fill_bank.Tie as tie
+use Rattle.trial.proofs.fill_waves.Statement.{statement}
+use Rattle.trial.proofs.fill_waves.Tie as tie
 
 abbrev Inv-loop : tie.InvT-loop
 Inv-loop bank₀ i₀ bank i =
@@ -44,8 +44,8 @@ same-length c = search needs
 returns : tie.Need-returns Inv-loop μ-loop
 returns c = search needs
 
-pub fill-bank-spec : {M : Type 1} → statement M
-fill-bank-spec =
+pub fill-waves-spec : {M : Type 1} → statement M
+fill-waves-spec =
     tie.close
     (tie.spec
     Inv-loop
