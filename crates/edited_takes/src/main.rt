@@ -1,4 +1,4 @@
-// Lists of edits on all three instruments. After the rendering and after each edit the take is compared, word by word, with one that is
+// Lists of edits on every instrument. After the rendering and after each edit the take is compared, word by word, with one that is
 // rendered afresh into other words.
 use rows::Settings;
 use take::Answer;
@@ -300,4 +300,5 @@ fn main() {
     list(0, &bank, &none);
     list(1, &bank, &none);
     list(2, &bank, &map);
+    list(3, &bank, &none);
 }
