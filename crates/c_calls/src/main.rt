@@ -1,12 +1,39 @@
 // Calls the C functions by position, each with arguments that are all different, and prints what they return, what they write to `first` and
 // `second`, and every lent word. A contract speaks of a parameter by its name, C binds it by its place: two parameters that change places show here.
-use trial::fill_waves;
+ghost use mathlib.Core.Path.{_≡_};
+ghost use lib.ListN.{length};
 use trial::say;
 use trial::say_number;
-use trial::say_words;
 
 // What stands in a result before a call writes it.
 const UNWRITTEN: u64 = 77;
+
+// Writes a space and a word in decimal.
+fn say_word(w: u32) {
+    say_number(w as u64);
+}
+
+// Writes a line: a text, and each word with a space before it.
+fn say_words(text: &[u8], words: &[u32]) {
+    say(text);
+    let mut i = 0;
+    while i < words.len() {
+        say_word(words[i]);
+        i += 1;
+    }
+    say(b"\n");
+}
+
+// A bank whose samples go up and down: 7919 i mod 32749.
+fn fill_waves(bank: &mut [i16])
+    requires { ⌜ length (now bank) ≡ 25344 ⌝ }
+{
+    let mut i = 0;
+    while i < bank.len() {
+        bank[i] = (i * 7919 % 32749) as i16;
+        i += 1;
+    }
+}
 
 // What a call returned and wrote to its two results.
 fn print_values(call: &[u8], number: u32, first: u64, second: u64) {

@@ -4,12 +4,33 @@ use rows::Settings;
 use take::Answer;
 use trial::fill_tables;
 use trial::say;
-use trial::say_same;
 use trial::say_two;
 
 const RATE: u32 = 48000;
 
 const FRAMES: usize = 6;
+
+// Whether two runs of words are the same.
+fn same(a: &[u32], b: &[u32]) -> bool {
+    if a.len() != b.len() {
+        return false;
+    }
+    let mut i = 0;
+    while i < a.len() {
+        if a[i] != b[i] {
+            return false;
+        }
+        i += 1;
+    }
+    true
+}
+
+// Writes a text where two runs of words are the same.
+fn say_same(text: &[u8], a: &[u32], b: &[u32]) {
+    if same(a, b) {
+        say(text);
+    }
+}
 
 // An instrument's settings.
 fn settings(instrument: u32) -> Settings {

@@ -56,15 +56,6 @@ fn replace(name: &[u8], beside: &[u8]) {
     }
 }
 
-// Writes a file, in the place of one that is there.
-pub fn write_file(name: &[u8], bytes: &[u8]) {
-    let mut beside = [0u8; MOST_BESIDE];
-    let end = put_beside(name, &mut beside);
-    if prepare(name, &beside[..end], bytes) {
-        replace(name, &beside[..end]);
-    }
-}
-
 // Writes two files; neither takes its place before both are written.
 pub fn write_two(first: &[u8], first_bytes: &[u8], second: &[u8], second_bytes: &[u8]) {
     let mut beside = [0u8; MOST_BESIDE];

@@ -4,7 +4,6 @@
 // files, a score of 8,193 bytes and of 8,192, edits of 8,193 and of 8,192, and a bank that is a byte long and a byte short; the last with
 // no files there; over older files, with a folder in the way of a new file; and once that is gone.
 use files::reading::read_file;
-use files::writing::write_file;
 use inputs::BANK_BYTES;
 use inputs::MOST_TEXT;
 use retake_lib::BANK_ROOM;
@@ -19,6 +18,17 @@ ghost use Rattle.inputs.specs.Inputs.{mostText, bankBytes};
 
 // The bytes of the line of names of edits.txt.
 const NAMES: usize = 40;
+
+// Writes a file, in the place of one that is there.
+fn write_file(name: &[u8], bytes: &[u8]) {
+    let fd = os::open_overwrite(name);
+    if fd < 0 {
+        os::fail(name);
+        return;
+    }
+    io::write_all(fd, bytes);
+    libc::close(fd);
+}
 
 // The first n bytes as a file.
 fn put(name: &[u8], bytes: &[u8], n: usize)

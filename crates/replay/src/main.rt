@@ -8,13 +8,11 @@ ghost use Prim.Native.Nat.{_+_, _≤_, _<_};
 use libc::STDIN_FILENO;
 use rows::Settings;
 use take::Answer;
-use trial::copy_words;
 use trial::fill_tables;
 use trial::say;
 use trial::say_number;
 use trial::say_two;
 use trial::sum_of_words;
-use trial::word;
 
 const BANK: usize = 25344;
 
@@ -39,6 +37,36 @@ struct Score {
     rows: usize,
     edits: usize,
     at: usize,
+}
+
+// A byte as a word.
+fn wide(x: u8) -> u32
+    ensures { λ r. ⌜ r < 256 ⌝ }
+{
+    x as u32
+}
+
+// The word at byte `at` of a file, low byte first, 0 past its end.
+fn word(file: &[u8], at: usize) -> u32 {
+    if at < file.len() {
+        if 3 < file.len() - at {
+            let low = wide(file[at]) + wide(file[at + 1]) * 256;
+            let high = wide(file[at + 2]) + wide(file[at + 3]) * 256;
+            return low + high * 65536;
+        }
+    }
+    0
+}
+
+// Words of a file, from byte `at` on, into as many places.
+fn copy_words(file: &[u8], at: usize, words: &mut [u32])
+    requires { ⌜ at < 1000000 ⌝ }
+{
+    let mut i = 0;
+    while i < words.len() {
+        words[i] = word(file, at + i * 4);
+        i += 1;
+    }
 }
 
 // The two numbers of a call's success, or of its refusal.

@@ -2,11 +2,10 @@
 // A text of standard input ends at the byte that says how it is read: `~` as a score into 20 words, `<` as one into 14, `@` as edits into 18.
 // An LF after that byte belongs to no text.
 use libc::STDIN_FILENO;
+use libc::STDOUT_FILENO;
 use reader::ReadAnswer;
 use trial::after;
-use trial::all_are;
 use trial::say;
-use trial::say_hex_words;
 use trial::say_number;
 use trial::say_two;
 use trial::text_end;
@@ -18,6 +17,33 @@ const FILL: u32 = 0xaaaaaaaa;
 
 // 36 bytes of names and 45 for each line.
 const LONG_TEXT: usize = 36 + 45 * 4098;
+
+// Writes a space and a word's eight hexadecimal digits.
+fn say_hex(w: u32) {
+    say(b" ");
+    io::print_hex(STDOUT_FILENO, w as u64, 8);
+}
+
+// Writes the hexadecimal digits of each word, with a space before them.
+fn say_hex_words(words: &[u32]) {
+    let mut i = 0;
+    while i < words.len() {
+        say_hex(words[i]);
+        i += 1;
+    }
+}
+
+// Whether each word is `w`.
+fn all_are(w: u32, words: &[u32]) -> bool {
+    let mut i = 0;
+    while i < words.len() {
+        if words[i] != w {
+            return false;
+        }
+        i += 1;
+    }
+    true
+}
 
 // The answer's line; after a success each lent word, after a refusal whether they all are as they were.
 fn show(answer: ReadAnswer, words: &[u32]) {

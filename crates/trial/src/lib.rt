@@ -1,8 +1,9 @@
-// What the programs that try out the library share: they print, read texts and words of an input, fill banks and maps, and tell one run of
-// words or bytes from another. No part of the product calls it; its functions are proved safe and ending.
+// What the programs that try out the library share: they print, find the texts of an input, fill banks and maps, and tell one run of words or
+// bytes from another. No part of the product calls it. What is printed has no equation: no contract can say what the system writes.
 ghost use mathlib.Core.Path.{_≡_};
 ghost use Prim.Native.Nat.{_≤_, _<_};
 ghost use lib.ListN.{length};
+ghost use Rattle.trial.specs.Trial.{nextOf, numbers, numberAfter, highByte, sampleOf, modulus, mixedOf, sumOf};
 use libc::STDOUT_FILENO;
 
 // Writes a text.
@@ -23,78 +24,17 @@ pub fn say_two(text: &[u8], first: u64, second: u64) {
     say_number(second);
 }
 
-// Writes a space and a word in decimal.
-fn say_word(w: u32) {
-    say_number(w as u64);
-}
-
-// Writes a line: a text, and each word with a space before it.
-pub fn say_words(text: &[u8], words: &[u32]) {
-    say(text);
-    let mut i = 0;
-    while i < words.len() {
-        say_word(words[i]);
-        i += 1;
-    }
-    say(b"\n");
-}
-
-// Writes a space and a word's eight hexadecimal digits.
-fn say_hex(w: u32) {
-    say(b" ");
-    io::print_hex(STDOUT_FILENO, w as u64, 8);
-}
-
-// Writes the hexadecimal digits of each word, with a space before them.
-pub fn say_hex_words(words: &[u32]) {
-    let mut i = 0;
-    while i < words.len() {
-        say_hex(words[i]);
-        i += 1;
-    }
-}
-
-// Whether two runs of words are the same.
-fn same(a: &[u32], b: &[u32]) -> bool {
-    if a.len() != b.len() {
-        return false;
-    }
-    let mut i = 0;
-    while i < a.len() {
-        if a[i] != b[i] {
-            return false;
-        }
-        i += 1;
-    }
-    true
-}
-
-// Writes a text where two runs of words are the same.
-pub fn say_same(text: &[u8], a: &[u32], b: &[u32]) {
-    if same(a, b) {
-        say(text);
-    }
-}
-
-// Whether each word is `w`.
-pub fn all_are(w: u32, words: &[u32]) -> bool {
-    let mut i = 0;
-    while i < words.len() {
-        if words[i] != w {
-            return false;
-        }
-        i += 1;
-    }
-    true
-}
-
 // The next number of a series that any language can make: s = 1664525 s + 1013904223 mod 2^32.
-fn next(s: u32) -> u32 {
+fn next(s: u32) -> u32
+    ensures { λ r. ⌜ r ≡ nextOf s ⌝ }
+{
     (((s as u64) * 1664525 + 1013904223) % 4294967296) as u32
 }
 
 // Bytes from a seed: each is the highest byte of a number of the series.
-pub fn fill_bytes(seed: u32, bytes: &mut [u8]) {
+pub fn fill_bytes(seed: u32, bytes: &mut [u8])
+    ensures { λ _. ⌜ now (bytes .exit) ≡ numbers highByte (length (now (bytes .entry))) seed ⌝ }
+{
     let mut s = seed;
     let mut i = 0;
     while i < bytes.len() {
@@ -105,7 +45,9 @@ pub fn fill_bytes(seed: u32, bytes: &mut [u8]) {
 }
 
 // A sample: the upper half of a number of the series, less 32,768.
-fn sample(s: u32) -> i16 {
+fn sample(s: u32) -> i16
+    ensures { λ r. ⌜ r ≡ sampleOf s ⌝ }
+{
     let high = s / 65536;
     if high < 32768 {
         -1 - ((32767 - high) as i16)
@@ -115,7 +57,10 @@ fn sample(s: u32) -> i16 {
 }
 
 // Samples from a seed. Gives the number that the series has come to.
-fn fill_samples(seed: u32, samples: &mut [i16]) -> u32 {
+fn fill_samples(seed: u32, samples: &mut [i16]) -> u32
+    ensures { λ r. ⌜ r ≡ numberAfter (length (now (samples .entry))) seed ⌝ }
+    ensures { λ _. ⌜ now (samples .exit) ≡ numbers sampleOf (length (now (samples .entry))) seed ⌝ }
+{
     let mut s = seed;
     let mut i = 0;
     while i < samples.len() {
@@ -127,32 +72,27 @@ fn fill_samples(seed: u32, samples: &mut [i16]) -> u32 {
 }
 
 // The bank and the map of a seed: the map goes on where the bank ends.
-pub fn fill_tables(seed: u32, bank: &mut [i16], map: &mut [u8]) {
+pub fn fill_tables(seed: u32, bank: &mut [i16], map: &mut [u8])
+    ensures { λ _. ⌜ now (bank .exit) ≡ numbers sampleOf (length (now (bank .entry))) seed ⌝ }
+    ensures { λ _. ⌜ now (map .exit) ≡ numbers highByte (length (now (map .entry))) (numberAfter (length (now (bank .entry))) seed) ⌝ }
+{
     let s = fill_samples(seed, bank);
     fill_bytes(s, map);
 }
 
-// A bank whose samples go up and down: 7919 i mod 32749.
-pub fn fill_waves(bank: &mut [i16])
-    requires { ⌜ length (now bank) ≡ 25344 ⌝ }
-{
-    let mut i = 0;
-    while i < bank.len() {
-        bank[i] = (i * 7919 % 32749) as i16;
-        i += 1;
-    }
-}
-
 // A check number with one word more: h = 65599 h + word mod 4294967291.
 fn mixed(h: u64, w: u32) -> u64
-    requires { ⌜ h < 4294967291 ⌝ }
-    ensures { λ r. ⌜ r < 4294967291 ⌝ }
+    requires { ⌜ h < modulus ⌝ }
+    ensures { λ r. ⌜ r ≡ mixedOf h w ⌝ }
+    ensures { λ r. ⌜ r < modulus ⌝ }
 {
     (65599 * h + (w as u64)) % 4294967291
 }
 
 // A number that tells one list of words from another.
-pub fn sum_of_words(words: &[u32]) -> u64 {
+pub fn sum_of_words(words: &[u32]) -> u64
+    ensures { λ r. ⌜ r ≡ sumOf 0 (now (words .entry)) ⌝ }
+{
     let mut h = 0;
     let mut i = 0;
     while i < words.len() {
@@ -164,13 +104,15 @@ pub fn sum_of_words(words: &[u32]) -> u64 {
 
 // A byte as a word.
 fn wide(x: u8) -> u32
-    ensures { λ r. ⌜ r < 256 ⌝ }
+    ensures { λ r. ⌜ r ≡ x ⌝ }
 {
     x as u32
 }
 
 // A number that tells files apart, each byte as a word.
-pub fn sum_of(bytes: &[u8]) -> u64 {
+pub fn sum_of(bytes: &[u8]) -> u64
+    ensures { λ r. ⌜ r ≡ sumOf 0 (now (bytes .entry)) ⌝ }
+{
     let mut h = 0;
     let mut i = 0;
     while i < bytes.len() {
@@ -178,29 +120,6 @@ pub fn sum_of(bytes: &[u8]) -> u64 {
         i += 1;
     }
     h
-}
-
-// The word at byte `at` of a file, low byte first, 0 past its end.
-pub fn word(file: &[u8], at: usize) -> u32 {
-    if at < file.len() {
-        if 3 < file.len() - at {
-            let low = wide(file[at]) + wide(file[at + 1]) * 256;
-            let high = wide(file[at + 2]) + wide(file[at + 3]) * 256;
-            return low + high * 65536;
-        }
-    }
-    0
-}
-
-// Words of a file, from byte `at` on, into as many places.
-pub fn copy_words(file: &[u8], at: usize, words: &mut [u32])
-    requires { ⌜ at < 1000000 ⌝ }
-{
-    let mut i = 0;
-    while i < words.len() {
-        words[i] = word(file, at + i * 4);
-        i += 1;
-    }
 }
 
 // Whether a byte is one of those that end a text.

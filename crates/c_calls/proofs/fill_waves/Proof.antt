@@ -3,8 +3,8 @@ use Prim.Native.Nat.{_-_, _≤_}
 use mathlib.Core.Path.{_≡_}
 use lib.ListN.{length}
 use borrow.Author.Needs.{needs}
-use Rattle.trial.proofs.fill_waves.Statement.{statement}
-use Rattle.trial.proofs.fill_waves.Tie as tie
+use Rattle.c_calls.proofs.fill_waves.Statement.{statement}
+use Rattle.c_calls.proofs.fill_waves.Tie as tie
 
 abbrev Inv-loop : tie.InvT-loop
 Inv-loop bank₀ i₀ bank i =

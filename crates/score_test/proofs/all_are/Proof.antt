@@ -2,8 +2,8 @@
 use Prim.Native.Nat.{_-_, _≤_}
 use lib.ListN.{length}
 use borrow.Author.Needs.{needs}
-use Rattle.trial.proofs.all_are.Statement.{statement}
-use Rattle.trial.proofs.all_are.Tie as tie
+use Rattle.score_test.proofs.all_are.Statement.{statement}
+use Rattle.score_test.proofs.all_are.Tie as tie
 
 abbrev Inv-loop : tie.InvT-loop
 Inv-loop w words i₀ i = i ≤ length words

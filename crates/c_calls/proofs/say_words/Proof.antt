@@ -2,8 +2,8 @@
 use Prim.Native.Nat.{_-_, _≤_}
 use lib.ListN.{length}
 use borrow.Author.Needs.{needs}
-use Rattle.trial.proofs.say_words.Statement.{statement}
-use Rattle.trial.proofs.say_words.Tie as tie
+use Rattle.c_calls.proofs.say_words.Statement.{statement}
+use Rattle.c_calls.proofs.say_words.Tie as tie
 
 abbrev Inv-loop : tie.InvT-loop
 Inv-loop text words i₀ t4 i =

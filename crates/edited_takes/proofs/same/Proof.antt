@@ -2,8 +2,8 @@
 use Prim.Native.Nat.{_-_, _≤_}
 use lib.ListN.{length}
 use borrow.Author.Needs.{needs}
-use Rattle.trial.proofs.same.Statement.{statement}
-use Rattle.trial.proofs.same.Tie as tie
+use Rattle.edited_takes.proofs.same.Statement.{statement}
+use Rattle.edited_takes.proofs.same.Tie as tie
 
 abbrev Inv-loop : tie.InvT-loop
 Inv-loop a b i₀ i =
