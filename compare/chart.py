@@ -11,7 +11,14 @@ import sys
 LOW, HIGH = 1e-4, 2.0
 LEFT, WIDTH, BAR, GAP, TOP = 280, 480, 16, 6, 44
 VOICES = {"0": "wavetable", "1": "terrain", "2": "terrain with map", "3": "oscillator"}
-COLOURS = {"render": "#2b6cb0", "edit": "#2f855a", "read": "#b7791f"}
+COLOURS = {
+    "render": "#2b6cb0",
+    "edit": "#2f855a",
+    "insert": "#6b46c1",
+    "remove": "#97266d",
+    "move": "#718096",
+    "read": "#b7791f",
+}
 
 
 def x_of(ratio):
@@ -25,6 +32,9 @@ def label(measurement):
         return "reading the text"
     if words[0] == "render":
         return f"render, {VOICES[words[1]]}, {words[2]} bank"
+    if words[0] in ("insert", "remove", "move"):
+        place = "the end" if words[-1] == "end" else f"row {int(words[-1]):,}"
+        return f"plain move, {place}" if words[0] == "move" else f"{words[0]} at {place}, {VOICES[words[1]]}"
     rows = "1 row" if words[-1] == "1" else f"{int(words[-1]):,} rows"
     return f"edit, {rows}, {VOICES[words[1]]}"
 

@@ -1,4 +1,5 @@
-/* Tries include/retake.h: NULL with length 0, every refusal through the structs, buffers longer than the score needs.
+/* Tries include/retake.h: NULL with length 0, every refusal through the structs, buffers longer than the score needs, rows put in
+ * and taken out.
  * `compare/run crate` builds it as C99, C11 and C++ with the address and undefined behaviour sanitizers. */
 #include <stdio.h>
 #include <stdlib.h>
@@ -18,8 +19,8 @@ enum { ROWS = 3, FRAMES = 4, ROOM = 5, SAMPLES = ROOM * FRAMES, JUNK = 0x5a5a5a5
 static int16_t bank[RETAKE_BANK_LENGTH + 1];
 static uint8_t map[RETAKE_MAP_LENGTH];
 static uint32_t rows[ROOM * RETAKE_ROW_WORDS], out[SAMPLES], aux[SAMPLES], kept[ROOM * RETAKE_KEPT_WORDS];
-
-static uint32_t flat_rows[ROWS * RETAKE_ROW_WORDS], flat_out[ROWS * FRAMES], flat_aux[ROWS * FRAMES], flat_kept[ROWS * RETAKE_KEPT_WORDS];
+static uint32_t fresh_out[SAMPLES], fresh_aux[SAMPLES], fresh_kept[ROOM * RETAKE_KEPT_WORDS];
+static uint32_t many[RETAKE_MOST_ROWS * RETAKE_ROW_WORDS];
 
 static const char text[] =
     "note timbre morph harmonics restart\n"
@@ -44,6 +45,10 @@ static int refused(retake_report report, uint32_t number, uint64_t place) {
     return report.refusal == number && report.place == place && report.rows == 0 && report.held == 0;
 }
 
+static int done(retake_report report, uint64_t rendered) {
+    return report.refusal == RETAKE_DONE && report.place == 0 && report.rows == rendered;
+}
+
 static retake_settings settings_of(uint32_t instrument) {
     retake_settings settings = {0, 48000, FRAMES, bank, RETAKE_BANK_LENGTH, NULL, 0};
     settings.instrument = instrument;
@@ -65,123 +70,205 @@ static retake_take take_of(void) {
     return take;
 }
 
+/* A row with other words than the text's in each column. */
+static retake_row other_row(void) {
+    retake_row row = {72.0f, 0.75f, 0.25f, 0.125f, 1};
+    return row;
+}
+
 /* The library's functions with NULL and 0 for one buffer after another. */
 static void nulls(void) {
     uint64_t first = 7, second = 7;
     CHECK(retake_read_score(NULL, 0, rows, 25, &first, &second) == RETAKE_REFUSED_NAMES && first == 0 && second == 0);
     CHECK(retake_read_score((const uint8_t *)text, sizeof text - 1, NULL, 0, &first, &second) == RETAKE_REFUSED_SPACE);
     CHECK(retake_read_score((const uint8_t *)text, sizeof text - 1, rows, 25, &first, &second) == RETAKE_DONE && first == 3);
-    CHECK(retake_render(0, 48000, 4, NULL, 0, NULL, 0, rows, 15, out, 12, aux, 12, kept, 39, &first, &second) == RETAKE_REFUSED_BANK);
-    CHECK(retake_render(2, 48000, 4, bank, 25344, NULL, 0, rows, 15, out, 12, aux, 12, kept, 39, &first, &second) == RETAKE_REFUSED_MAP);
-    CHECK(retake_render(0, 48000, 4, bank, 25344, NULL, 0, NULL, 0, out, 12, aux, 12, kept, 39, &first, &second) == RETAKE_REFUSED_ROWS);
-    CHECK(retake_render(0, 48000, 4, bank, 25344, NULL, 0, rows, 15, NULL, 0, aux, 12, kept, 39, &first, &second) == RETAKE_REFUSED_TAKE);
-    CHECK(retake_render(0, 48000, 4, bank, 25344, NULL, 0, rows, 15, out, 12, NULL, 0, kept, 39, &first, &second) == RETAKE_REFUSED_TAKE);
-    CHECK(retake_render(0, 48000, 4, bank, 25344, NULL, 0, rows, 15, out, 12, aux, 12, NULL, 0, &first, &second) == RETAKE_REFUSED_TAKE);
-    CHECK(retake_render(3, 48000, 4, bank, 25344, map, 4096, rows, 15, out, 12, aux, 12, kept, 39, &first, &second) == RETAKE_REFUSED_MAP);
-    CHECK(retake_render(3, 0, 0, NULL, 0, NULL, 0, NULL, 0, NULL, 0, NULL, 0, NULL, 0, &first, &second) == RETAKE_REFUSED_RATE);
-    CHECK(retake_render(4, 0, 0, NULL, 0, NULL, 0, NULL, 0, NULL, 0, NULL, 0, NULL, 0, &first, &second) == RETAKE_REFUSED_INSTRUMENT);
-    CHECK(retake_render(0, 48000, 4, bank, 25344, NULL, 0, rows, 15, out, 12, aux, 12, kept, 39, &first, &second) == RETAKE_DONE && first == 3);
-    CHECK(retake_edit(0, 48000, 4, bank, 25344, NULL, 0, NULL, 0, 0, 0, 0, 0, 0, 0, out, 12, aux, 12, kept, 39, &first, &second) == RETAKE_REFUSED_ROWS);
-    CHECK(retake_edit(1, 48000, 4, bank, 25344, NULL, 0, rows, 15, 0, 0, 0, 0, 0, 0, NULL, 0, NULL, 0, NULL, 0, &first, &second) == RETAKE_REFUSED_TAKE);
+    CHECK(retake_render(0, 48000, 4, NULL, 0, NULL, 0, rows, 15, 3, out, 12, aux, 12, kept, 39, &first, &second) == RETAKE_REFUSED_BANK);
+    CHECK(retake_render(2, 48000, 4, bank, 25344, NULL, 0, rows, 15, 3, out, 12, aux, 12, kept, 39, &first, &second) == RETAKE_REFUSED_MAP);
+    CHECK(retake_render(0, 48000, 4, bank, 25344, NULL, 0, NULL, 0, 3, out, 12, aux, 12, kept, 39, &first, &second) == RETAKE_REFUSED_ROWS);
+    CHECK(retake_render(0, 48000, 4, bank, 25344, NULL, 0, rows, 15, 3, NULL, 0, aux, 12, kept, 39, &first, &second) == RETAKE_REFUSED_TAKE);
+    CHECK(retake_render(0, 48000, 4, bank, 25344, NULL, 0, rows, 15, 3, out, 12, NULL, 0, kept, 39, &first, &second) == RETAKE_REFUSED_TAKE);
+    CHECK(retake_render(0, 48000, 4, bank, 25344, NULL, 0, rows, 15, 3, out, 12, aux, 12, NULL, 0, &first, &second) == RETAKE_REFUSED_TAKE);
+    CHECK(retake_render(3, 48000, 4, bank, 25344, map, 4096, rows, 15, 3, out, 12, aux, 12, kept, 39, &first, &second) == RETAKE_REFUSED_MAP);
+    CHECK(retake_render(3, 0, 0, NULL, 0, NULL, 0, NULL, 0, 0, NULL, 0, NULL, 0, NULL, 0, &first, &second) == RETAKE_REFUSED_RATE);
+    CHECK(retake_render(4, 0, 0, NULL, 0, NULL, 0, NULL, 0, 0, NULL, 0, NULL, 0, NULL, 0, &first, &second) == RETAKE_REFUSED_INSTRUMENT);
+    CHECK(retake_render(0, 48000, 4, bank, 25344, NULL, 0, rows, 15, 3, out, 12, aux, 12, kept, 39, &first, &second) == RETAKE_DONE && first == 3);
+    CHECK(retake_edit(0, 48000, 4, bank, 25344, NULL, 0, NULL, 0, 3, 0, 0, 0, 0, 0, 0, out, 12, aux, 12, kept, 39, &first, &second) == RETAKE_REFUSED_ROWS);
+    CHECK(retake_edit(1, 48000, 4, bank, 25344, NULL, 0, rows, 15, 3, 0, 0, 0, 0, 0, 0, NULL, 0, NULL, 0, NULL, 0, &first, &second) == RETAKE_REFUSED_TAKE);
+    CHECK(retake_insert(1, 48000, 4, bank, 25344, NULL, 0, NULL, 0, 3, 0, 0, 0, 0, 0, 0, out, 12, aux, 12, kept, 39, &first, &second) == RETAKE_REFUSED_ROWS);
+    CHECK(retake_insert(3, 48000, 4, bank, 25344, NULL, 0, rows, 15, 3, 0, 0, 0, 0, 0, 0, NULL, 0, NULL, 0, NULL, 0, &first, &second) == RETAKE_REFUSED_TAKE);
+    CHECK(retake_insert(3, 48000, 4, bank, 25344, NULL, 0, rows, 15, 3, 0, 0, 0, 0, 0, 0, out, 12, aux, 12, kept, 39, &first, &second) == RETAKE_REFUSED_FULL);
+    CHECK(retake_remove(0, 48000, 4, bank, 25344, NULL, 0, NULL, 0, 3, 0, out, 12, aux, 12, kept, 39, &first, &second) == RETAKE_REFUSED_ROWS);
+    CHECK(retake_remove(1, 48000, 4, bank, 25344, NULL, 0, rows, 15, 3, 0, NULL, 0, NULL, 0, NULL, 0, &first, &second) == RETAKE_REFUSED_TAKE);
     CHECK(first == 0 && second == 0);
     retake_floats(NULL, NULL, 0);
 }
 
-/* The same rendering and edit by the library's own functions leave the same words. */
-static void same_as_flat(const retake_settings *s) {
+/* Is the take that of a fresh rendering, made in buffers of just its length? */
+static int as_fresh(const retake_settings *s, const retake_score *score) {
+    const size_t count = (size_t)score->count, samples = count * FRAMES, states = count * RETAKE_KEPT_WORDS;
     uint64_t first, second;
-    memcpy(flat_rows, rows, sizeof flat_rows);
-    memcpy(flat_rows + 5, flat_rows + 10, 5 * sizeof *rows);
-    CHECK(retake_render(s->instrument, 48000, FRAMES, bank, RETAKE_BANK_LENGTH, s->map, s->map_len, flat_rows, 15,
-                        flat_out, 12, flat_aux, 12, flat_kept, 39, &first, &second) == RETAKE_DONE && first == 3);
-    CHECK(retake_edit(s->instrument, 48000, FRAMES, bank, RETAKE_BANK_LENGTH, s->map, s->map_len, flat_rows, 15, 1,
-                      rows[5], rows[6], rows[7], rows[8], rows[9],
-                      flat_out, 12, flat_aux, 12, flat_kept, 39, &first, &second) == RETAKE_DONE && first == 2);
-    CHECK(memcmp(flat_rows, rows, sizeof flat_rows) == 0 && memcmp(flat_out, out, sizeof flat_out) == 0);
-    CHECK(memcmp(flat_aux, aux, sizeof flat_aux) == 0 && memcmp(flat_kept, kept, sizeof flat_kept) == 0);
+    CHECK(retake_render(s->instrument, s->rate, FRAMES, bank, RETAKE_BANK_LENGTH, s->map, s->map_len, rows, count * RETAKE_ROW_WORDS, count,
+                        fresh_out, samples, fresh_aux, samples, fresh_kept, states, &first, &second) == RETAKE_DONE && first == count);
+    return memcmp(fresh_out, out, samples * sizeof *out) == 0 && memcmp(fresh_aux, aux, samples * sizeof *aux) == 0
+        && memcmp(fresh_kept, kept, states * sizeof *kept) == 0;
+}
+
+/* Are the places from this one on as they were filled? */
+static int filled_from(size_t place) {
+    return filled(rows, place * RETAKE_ROW_WORDS, ROOM * RETAKE_ROW_WORDS) && filled(out, place * FRAMES, SAMPLES)
+        && filled(aux, place * FRAMES, SAMPLES) && filled(kept, place * RETAKE_KEPT_WORDS, ROOM * RETAKE_KEPT_WORDS);
+}
+
+/* The text, read and rendered in buffers that were full of junk. */
+static retake_score text_rendered(const retake_settings *settings, const retake_take *take) {
+    retake_score score = score_of(ROOM * RETAKE_ROW_WORDS);
+    retake_report report;
+    fill(rows, ROOM * RETAKE_ROW_WORDS);
+    fill(out, SAMPLES);
+    fill(aux, SAMPLES);
+    fill(kept, ROOM * RETAKE_KEPT_WORDS);
+    report = retake_read_text(&score, text, sizeof text - 1);
+    CHECK(done(report, ROWS) && report.held == 0 && score.count == ROWS);
+    CHECK(done(retake_render_score(settings, &score, take), ROWS));
+    CHECK(!filled(out, 0, ROWS * FRAMES) && filled_from(ROWS));
+    return score;
 }
 
 /* A rendering and an edit in buffers with room for two rows more. */
 static void accepted(uint32_t instrument) {
     const retake_settings settings = settings_of(instrument);
     const retake_take take = take_of();
-    retake_score score = score_of(ROOM * RETAKE_ROW_WORDS);
-    retake_report report;
-    retake_row row;
+    const retake_score score = text_rendered(&settings, &take);
+    retake_row row = retake_row_at(&score, 1);
     float samples[SAMPLES];
 
-    fill(rows, ROOM * RETAKE_ROW_WORDS);
-    fill(out, SAMPLES);
-    fill(aux, SAMPLES);
-    fill(kept, ROOM * RETAKE_KEPT_WORDS);
-    report = retake_read_text(&score, text, sizeof text - 1);
-    CHECK(report.refusal == RETAKE_DONE && report.rows == ROWS && report.held == 0 && report.place == 0 && score.count == ROWS);
-    report = retake_render_score(&settings, &score, &take);
-    CHECK(report.refusal == RETAKE_DONE && report.rows == ROWS && report.place == 0);
-    row = retake_row_at(&score, 1);
     CHECK(row.note == 60.0f && row.timbre == 0.5f && row.restart == 0);
-    row.note = 72.0f;
-    row.timbre = 0.75f;
-    row.morph = 0.25f;
-    row.harmonics = 0.125f;
-    row.restart = 1;
-    report = retake_edit_row(&settings, &score, &take, 1, row);
-    CHECK(report.refusal == RETAKE_DONE && report.rows == 2);
+    CHECK(done(retake_edit_row(&settings, &score, &take, 1, other_row()), 2));
     CHECK(rows[5] == retake_word(72.0f) && rows[6] == retake_word(0.75f) && rows[7] == retake_word(0.25f));
     CHECK(rows[8] == retake_word(0.125f) && rows[9] == 1);
     row = retake_row_at(&score, 1);
     CHECK(row.note == 72.0f && row.timbre == 0.75f && row.morph == 0.25f && row.harmonics == 0.125f && row.restart == 1);
-    same_as_flat(&settings);
     CHECK(refused(retake_edit_row(&settings, &score, &take, ROWS, row), RETAKE_REFUSED_POSITION, ROWS));
     row.timbre = 1.5f;
     CHECK(refused(retake_edit_row(&settings, &score, &take, 2, row), RETAKE_REFUSED_LIMIT, 2));
-    CHECK(filled(rows, ROWS * RETAKE_ROW_WORDS, ROOM * RETAKE_ROW_WORDS));
-    CHECK(filled(out, ROWS * FRAMES, SAMPLES) && !filled(out, 0, ROWS * FRAMES));
-    CHECK(filled(aux, ROWS * FRAMES, SAMPLES) && filled(kept, ROWS * RETAKE_KEPT_WORDS, ROOM * RETAKE_KEPT_WORDS));
+    CHECK(as_fresh(&settings, &score) && filled_from(ROWS));
     retake_floats(samples, out, ROWS * FRAMES);
     CHECK(samples[5] == retake_float(out[5]));
 }
 
+/* Rows put in until the buffers are full, and taken out until one is left. */
+static void spliced(uint32_t instrument) {
+    const retake_settings settings = settings_of(instrument);
+    const retake_take take = take_of();
+    retake_score score = text_rendered(&settings, &take);
+    retake_row row = other_row(), loud = other_row();
+    uint32_t words[RETAKE_ROW_WORDS], block[FRAMES], state[RETAKE_KEPT_WORDS];
+    loud.morph = 1.5f;
+
+    CHECK(refused(retake_insert_row(&settings, &score, &take, ROWS + 1, row), RETAKE_REFUSED_POSITION, ROWS + 1));
+    CHECK(refused(retake_insert_row(&settings, &score, &take, 1, loud), RETAKE_REFUSED_LIMIT, 1));
+    CHECK(refused(retake_remove_row(&settings, &score, &take, ROWS), RETAKE_REFUSED_POSITION, ROWS));
+    CHECK(score.count == ROWS && as_fresh(&settings, &score) && filled_from(ROWS));
+
+    /* Behind the last row, then before the first, which restarts. */
+    CHECK(done(retake_insert_row(&settings, &score, &take, ROWS, row), 1) && score.count == 4);
+    CHECK(rows[15] == retake_word(72.0f) && rows[16] == retake_word(0.75f) && rows[17] == retake_word(0.25f));
+    CHECK(rows[18] == retake_word(0.125f) && rows[19] == 1);
+    CHECK(as_fresh(&settings, &score) && filled_from(4));
+    row.restart = 0;
+    CHECK(done(retake_insert_row(&settings, &score, &take, 0, row), 1) && score.count == ROOM && as_fresh(&settings, &score));
+    CHECK(retake_row_at(&score, 0).note == 72.0f && retake_row_at(&score, 1).note == 60.0f && retake_row_at(&score, 4).restart == 1);
+
+    /* No room: 13 after 8 and before 9. */
+    CHECK(refused(retake_insert_row(&settings, &score, &take, ROOM + 1, row), RETAKE_REFUSED_POSITION, ROOM + 1));
+    CHECK(refused(retake_insert_row(&settings, &score, &take, 2, loud), RETAKE_REFUSED_FULL, 0));
+    CHECK(score.count == ROOM && as_fresh(&settings, &score));
+
+    /* The row before the last one, which restarts, goes; the last old place keeps its words. */
+    memcpy(words, rows + 20, sizeof words);
+    memcpy(block, out + 4 * FRAMES, sizeof block);
+    memcpy(state, kept + 4 * RETAKE_KEPT_WORDS, sizeof state);
+    CHECK(done(retake_remove_row(&settings, &score, &take, 3), 0) && score.count == 4 && as_fresh(&settings, &score));
+    CHECK(memcmp(words, rows + 15, sizeof words) == 0 && memcmp(words, rows + 20, sizeof words) == 0);
+    CHECK(memcmp(block, out + 4 * FRAMES, sizeof block) == 0 && memcmp(state, kept + 4 * RETAKE_KEPT_WORDS, sizeof state) == 0);
+
+    /* A copy of a row that restarts: the row behind it finds the state that it had. */
+    CHECK(done(retake_insert_row(&settings, &score, &take, 2, retake_row_at(&score, 1)), 1) && score.count == 5 && as_fresh(&settings, &score));
+    CHECK(done(retake_remove_row(&settings, &score, &take, 2), 0) && score.count == 4 && as_fresh(&settings, &score));
+
+    /* Before a row that restarts, and before one that does not. */
+    CHECK(done(retake_insert_row(&settings, &score, &take, 3, row), 1) && score.count == 5 && as_fresh(&settings, &score));
+    CHECK(done(retake_remove_row(&settings, &score, &take, 3), 0) && score.count == 4 && as_fresh(&settings, &score));
+    CHECK(done(retake_insert_row(&settings, &score, &take, 2, row), 2) && score.count == 5 && as_fresh(&settings, &score));
+
+    while (score.count > 1) {
+        CHECK(retake_remove_row(&settings, &score, &take, score.count % 2 == 0 ? score.count - 1 : 0).refusal == RETAKE_DONE);
+        CHECK(as_fresh(&settings, &score));
+    }
+    CHECK(refused(retake_remove_row(&settings, &score, &take, 0), RETAKE_REFUSED_ROWS, 0));
+    CHECK(score.count == 1 && as_fresh(&settings, &score));
+}
+
+/* Do rendering, edit, insertion and removal all refuse with this number, and leave the count? */
+static int all_refused(const retake_settings *settings, const retake_score *score, const retake_take *take, uint32_t number) {
+    retake_score own = *score;
+    return refused(retake_render_score(settings, score, take), number, 0)
+        && refused(retake_edit_row(settings, score, take, 0, other_row()), number, 0)
+        && refused(retake_insert_row(settings, &own, take, 0, other_row()), number, 0)
+        && refused(retake_remove_row(settings, &own, take, 0), number, 0) && own.count == score->count;
+}
+
 /* Every refusal, through the structs. */
 static void refusals(void) {
-    const retake_row row = {60.0f, 0.5f, 0.5f, 0.5f, 0};
     retake_settings settings = settings_of(RETAKE_OSCILLATOR + 1);
     retake_take take = take_of();
     retake_score score = score_of(ROOM * RETAKE_ROW_WORDS);
+    const retake_score longest = {many, RETAKE_MOST_ROWS * RETAKE_ROW_WORDS, RETAKE_MOST_ROWS};
     score.count = ROWS;
 
-    CHECK(refused(retake_render_score(&settings, &score, &take), RETAKE_REFUSED_INSTRUMENT, 0));
+    CHECK(all_refused(&settings, &score, &take, RETAKE_REFUSED_INSTRUMENT));
     settings = settings_of(RETAKE_WAVETABLE);
     settings.rate = RETAKE_LOWEST_RATE - 1;
-    CHECK(refused(retake_render_score(&settings, &score, &take), RETAKE_REFUSED_RATE, 0));
+    CHECK(all_refused(&settings, &score, &take, RETAKE_REFUSED_RATE));
     settings.rate = RETAKE_HIGHEST_RATE + 1;
-    CHECK(refused(retake_edit_row(&settings, &score, &take, 0, row), RETAKE_REFUSED_RATE, 0));
+    CHECK(all_refused(&settings, &score, &take, RETAKE_REFUSED_RATE));
     settings = settings_of(RETAKE_WAVETABLE);
     settings.frames = 0;
-    CHECK(refused(retake_render_score(&settings, &score, &take), RETAKE_REFUSED_BLOCK, 0));
+    CHECK(all_refused(&settings, &score, &take, RETAKE_REFUSED_BLOCK));
     settings.frames = RETAKE_MOST_FRAMES + 1;
-    CHECK(refused(retake_render_score(&settings, &score, &take), RETAKE_REFUSED_BLOCK, 0));
+    CHECK(all_refused(&settings, &score, &take, RETAKE_REFUSED_BLOCK));
     settings = settings_of(RETAKE_WAVETABLE);
     settings.bank_len = RETAKE_BANK_LENGTH + 1;
-    CHECK(refused(retake_render_score(&settings, &score, &take), RETAKE_REFUSED_BANK, 0));
+    CHECK(all_refused(&settings, &score, &take, RETAKE_REFUSED_BANK));
     settings = settings_of(RETAKE_TERRAIN_WITH_MAP);
     settings.instrument = RETAKE_TERRAIN;
-    CHECK(refused(retake_render_score(&settings, &score, &take), RETAKE_REFUSED_MAP, 0));
+    CHECK(all_refused(&settings, &score, &take, RETAKE_REFUSED_MAP));
     settings.instrument = RETAKE_OSCILLATOR;
-    CHECK(refused(retake_render_score(&settings, &score, &take), RETAKE_REFUSED_MAP, 0));
+    CHECK(all_refused(&settings, &score, &take, RETAKE_REFUSED_MAP));
+
     settings = settings_of(RETAKE_WAVETABLE);
     score.count = 0;
-    CHECK(refused(retake_render_score(&settings, &score, &take), RETAKE_REFUSED_ROWS, 0));
+    CHECK(all_refused(&settings, &score, &take, RETAKE_REFUSED_ROWS));
     score.count = ROOM + 1;
-    CHECK(refused(retake_edit_row(&settings, &score, &take, 0, row), RETAKE_REFUSED_ROWS, 0));
+    CHECK(all_refused(&settings, &score, &take, RETAKE_REFUSED_ROWS));
     score.count = UINT64_MAX;
-    CHECK(refused(retake_render_score(&settings, &score, &take), RETAKE_REFUSED_ROWS, 0));
+    CHECK(all_refused(&settings, &score, &take, RETAKE_REFUSED_ROWS));
+    score = longest;
+    CHECK(refused(retake_insert_row(&settings, &score, &take, 0, other_row()), RETAKE_REFUSED_ROWS, 0) && score.count == RETAKE_MOST_ROWS);
+    CHECK(refused(retake_remove_row(&settings, &score, &take, 0), RETAKE_REFUSED_TAKE, 0) && score.count == RETAKE_MOST_ROWS);
+    score = score_of(ROOM * RETAKE_ROW_WORDS);
+    score.count = 1;
+    CHECK(refused(retake_remove_row(&settings, &score, &take, 7), RETAKE_REFUSED_ROWS, 0) && score.count == 1);
+
     score.count = ROWS;
     take.out_len = ROWS * FRAMES - 1;
-    CHECK(refused(retake_render_score(&settings, &score, &take), RETAKE_REFUSED_TAKE, 0));
+    CHECK(all_refused(&settings, &score, &take, RETAKE_REFUSED_TAKE));
+    take = take_of();
+    take.aux_len = ROWS * FRAMES - 1;
+    CHECK(all_refused(&settings, &score, &take, RETAKE_REFUSED_TAKE));
     take = take_of();
     take.kept_len = ROWS * RETAKE_KEPT_WORDS - 1;
-    CHECK(refused(retake_edit_row(&settings, &score, &take, 0, row), RETAKE_REFUSED_TAKE, 0));
+    CHECK(all_refused(&settings, &score, &take, RETAKE_REFUSED_TAKE));
     CHECK(refused(retake_read_text(&score, "note\n", 5), RETAKE_REFUSED_NAMES, 0));
     CHECK(refused(retake_read_text(&score, text, sizeof text - 2), RETAKE_REFUSED_VALUE, 2));
     CHECK(refused(retake_read_text(&score, text, 36), RETAKE_REFUSED_ROWS, 0));
@@ -189,27 +276,50 @@ static void refusals(void) {
     CHECK(refused(retake_read_text(&score, text, sizeof text - 1), RETAKE_REFUSED_SPACE, 0) && score.count == 0);
 }
 
+/* An insertion where one buffer after another has all but one word of the room for one row more. Number 8 is tested before that, 9 after. */
+static void full(void) {
+    const retake_settings settings = settings_of(RETAKE_TERRAIN);
+    const retake_take room = take_of();
+    const retake_score score = text_rendered(&settings, &room);
+    retake_row loud = other_row();
+    int buffer;
+    loud.note = 121.0f;
+    for (buffer = 0; buffer < 4; buffer++) {
+        retake_score tight = score;
+        retake_take take = room;
+        if (buffer == 0) tight.rows_len = (ROWS + 1) * RETAKE_ROW_WORDS - 1;
+        if (buffer == 1) take.out_len = (ROWS + 1) * FRAMES - 1;
+        if (buffer == 2) take.aux_len = (ROWS + 1) * FRAMES - 1;
+        if (buffer == 3) take.kept_len = (ROWS + 1) * RETAKE_KEPT_WORDS - 1;
+        CHECK(refused(retake_insert_row(&settings, &tight, &take, ROWS + 1, loud), RETAKE_REFUSED_POSITION, ROWS + 1));
+        CHECK(refused(retake_insert_row(&settings, &tight, &take, ROWS, loud), RETAKE_REFUSED_FULL, 0));
+        CHECK(tight.count == ROWS && as_fresh(&settings, &score) && filled_from(ROWS));
+    }
+}
+
 /* A text of its own for each number, and one for the numbers that are none. */
 static void texts(void) {
     uint32_t a, b;
-    for (a = RETAKE_DONE; a <= RETAKE_REFUSED_SPACE + 1; a++) {
+    for (a = RETAKE_DONE; a <= RETAKE_REFUSED_FULL + 1; a++) {
         CHECK(retake_refusal_text(a)[0] != '\0');
         for (b = RETAKE_DONE; b < a; b++) CHECK(strcmp(retake_refusal_text(a), retake_refusal_text(b)) != 0);
     }
-    CHECK(strcmp(retake_refusal_text(UINT32_MAX), retake_refusal_text(RETAKE_REFUSED_SPACE + 1)) == 0);
+    CHECK(strcmp(retake_refusal_text(UINT32_MAX), retake_refusal_text(RETAKE_REFUSED_FULL + 1)) == 0);
 }
 
 int main(void) {
     size_t i;
+    uint32_t instrument;
     CHECK(RETAKE_WAVES * RETAKE_WAVE_LENGTH == RETAKE_BANK_LENGTH && RETAKE_MAP_EDGE * RETAKE_MAP_EDGE == RETAKE_MAP_LENGTH);
     for (i = 0; i <= RETAKE_BANK_LENGTH; i++) bank[i] = (int16_t)(i * 7919 % 32749);
     for (i = 0; i < RETAKE_MAP_LENGTH; i++) map[i] = (uint8_t)(i * 31 % 251);
     nulls();
-    accepted(RETAKE_WAVETABLE);
-    accepted(RETAKE_TERRAIN);
-    accepted(RETAKE_TERRAIN_WITH_MAP);
-    accepted(RETAKE_OSCILLATOR);
+    for (instrument = RETAKE_WAVETABLE; instrument <= RETAKE_OSCILLATOR; instrument++) {
+        accepted(instrument);
+        spliced(instrument);
+    }
     refusals();
+    full();
     texts();
     printf("header: as it says\n");
     return 0;

@@ -6,11 +6,11 @@
 #include <string.h>
 #include "retake.h"
 
-enum { STACK = 1 << 20, ROWS = 64, FRAMES = 128, PAINT = 0xa5 };
+enum { STACK = 1 << 20, ROWS = 64, ROOM = ROWS + 1, FRAMES = 128, PAINT = 0xa5 };
 
 static int16_t bank[25344];
 static uint8_t map[4096];
-static uint32_t rows[ROWS * 5], out[ROWS * FRAMES], aux[ROWS * FRAMES], kept[ROWS * 13];
+static uint32_t rows[ROOM * 5], out[ROOM * FRAMES], aux[ROOM * FRAMES], kept[ROOM * 13];
 static uint32_t instrument;
 static uint64_t first, second;
 static uint32_t answer;
@@ -18,23 +18,42 @@ static uint32_t answer;
 static void *nothing(void *unused) { return unused; }
 
 static void *render(void *unused) {
-    answer = retake_render(instrument, 48000, FRAMES, bank, 25344, map, instrument == 2 ? 4096 : 0, rows, ROWS * 5,
-                           out, ROWS * FRAMES, aux, ROWS * FRAMES, kept, ROWS * 13, &first, &second);
+    answer = retake_render(instrument, 48000, FRAMES, bank, 25344, map, instrument == 2 ? 4096 : 0, rows, ROOM * 5, ROWS,
+                           out, ROOM * FRAMES, aux, ROOM * FRAMES, kept, ROOM * 13, &first, &second);
     return unused;
 }
 
 static void *edit(void *unused) {
-    answer = retake_edit(instrument, 48000, FRAMES, bank, 25344, map, instrument == 2 ? 4096 : 0, rows, ROWS * 5,
+    answer = retake_edit(instrument, 48000, FRAMES, bank, 25344, map, instrument == 2 ? 4096 : 0, rows, ROOM * 5, ROWS,
                          0, 0x42700000 - instrument, 0x3f000000, 0x3f000000, 0x3f000000, 0,
-                         out, ROWS * FRAMES, aux, ROWS * FRAMES, kept, ROWS * 13, &first, &second);
+                         out, ROOM * FRAMES, aux, ROOM * FRAMES, kept, ROOM * 13, &first, &second);
+    return unused;
+}
+
+static void *insert(void *unused) {
+    answer = retake_insert(instrument, 48000, FRAMES, bank, 25344, map, instrument == 2 ? 4096 : 0, rows, ROOM * 5, ROWS,
+                           0, 0x42600000, 0x3f400000, 0x3f400000, 0x3f400000, 0,
+                           out, ROOM * FRAMES, aux, ROOM * FRAMES, kept, ROOM * 13, &first, &second);
+    return unused;
+}
+
+static void *take_out(void *unused) {
+    answer = retake_remove(instrument, 48000, FRAMES, bank, 25344, map, instrument == 2 ? 4096 : 0, rows, ROOM * 5, ROWS + 1, 0,
+                           out, ROOM * FRAMES, aux, ROOM * FRAMES, kept, ROOM * 13, &first, &second);
     return unused;
 }
 
 static void *read_score(void *unused) {
     const char *text = "timbre note morph harmonics restart\n00000000 42700000 00000000 00000000 00000001\n";
-    answer = retake_read_score((const uint8_t *)text, strlen(text), rows, ROWS * 5, &first, &second);
+    answer = retake_read_score((const uint8_t *)text, strlen(text), rows, ROOM * 5, &first, &second);
     return unused;
 }
+
+/* The calls in their order: what one leaves is handed to the next. */
+static const struct {
+    const char *name;
+    void *(*call)(void *);
+} calls[] = {{"rendering", render}, {"edit", edit}, {"insertion", insert}, {"removal", take_out}};
 
 /* The bytes of stack that a thread with this function has used. */
 static size_t used(void *(*call)(void *)) {
@@ -64,12 +83,13 @@ int main(void) {
         rows[i * 5 + 4] = 0;
     }
     for (instrument = 0; instrument < 4; instrument++) {
-        size_t bytes = used(render) - own;
-        printf("instrument %u: rendering of %llu rows %zu bytes", instrument, (unsigned long long)first, bytes);
-        if (answer) return 1;
-        bytes = used(edit) - own;
-        printf(", edit of %llu rows %zu bytes\n", (unsigned long long)first, bytes);
-        if (answer) return 1;
+        printf("instrument %u:", instrument);
+        for (int i = 0; i < 4; i++) {
+            size_t bytes = used(calls[i].call) - own;
+            if (answer) return 1;
+            printf("%s %s of %llu rows %zu bytes", i > 0 ? "," : "", calls[i].name, (unsigned long long)first, bytes);
+        }
+        printf("\n");
     }
     return 0;
 }

@@ -20,6 +20,9 @@
  * A take is what a score plays: `out` and `aux`, rows times frames words each, and `kept`, 13 words
  * for each row, the voice's state after it.
  *
+ * Score and take stand at the start of the lent buffers, which may be longer; a row count goes beside
+ * them. A call looks at nothing past its score and changes nothing past the score that it leaves.
+ *
  * Instruments
  *
  *     0 wavetable          the wavetable voice
@@ -30,9 +33,10 @@
  *
  * Two ways to call
  *
- * The library has three functions: retake_read_score, retake_render, retake_edit. Below them stand
- * inline functions over structs (settings, score, take, row, report), which call the same three:
- * retake_read_text, retake_render_score, retake_edit_row. Both may be mixed.
+ * The library has five functions: retake_read_score, retake_render, retake_edit, retake_insert,
+ * retake_remove. Below them stand inline functions over structs (settings, score, take, row, report),
+ * which call the same five: retake_read_text, retake_render_score, retake_edit_row, retake_insert_row,
+ * retake_remove_row. Both may be mixed.
  *
  * What is lent
  *
@@ -40,6 +44,10 @@
  * may overlap, and `first` and `second` are two places of their own. The functions keep nothing
  * between calls, allocate nothing, take about 15 KiB of stack and always end; calls that get different
  * buffers may run at the same time.
+ *
+ * For rows to be put in, lend more than the score needs: a score that may grow to n rows wants n times
+ * 5 row words, n times `frames` of out and of aux, and n times 13 of kept. With n = RETAKE_MOST_ROWS
+ * no insertion is refused for want of room.
  *
  * A pointer whose length is 0 may be NULL: nothing is read or written through it, and the answer is
  * that of any buffer of length 0. With another length a pointer must not be NULL and has that many
@@ -61,6 +69,8 @@
  *     retake_read_score    row count        0                    place       0
  *     retake_render        rows rendered    held in these rows   place       0
  *     retake_edit          rows rendered    held in these rows   place       0
+ *     retake_insert        rows rendered    held in these rows   place       0
+ *     retake_remove        rows rendered    held in these rows   place       0
  *
  * `held` counts how often a position was held at its top. A refused call changes no lent buffer.
  *
@@ -70,13 +80,21 @@
  *      3 block       frames 0 or above 128                                    0
  *      4 bank        length not 25,344                                        0
  *      5 map         length not 4,096 for instrument 2, not 0 for the others  0
- *      6 rows        words not a multiple of 5; rows 0 or above 4,096         0
- *      7 take        out or aux not rows times frames, kept not 13 times rows 0
- *      8 position    edited row not below the row count                       the position
- *      9 limit       a word outside its name's limit                          the first bad row
+ *      6 rows        row count 0 or above 4,096, before the call or after it; 0
+ *                    row words fewer than 5 times it (not in the reader)
+ *      7 take        out or aux shorter than count times frames, or kept      0
+ *                    than 13 times the count
+ *      8 position    not below the row count; in an insertion, above it       the position
+ *      9 limit       a word outside its name's limit, in the score as the     the first bad row of
+ *                    call would leave it                                      that score
  *     10 names       first line not the five names, or no LF ends it          0
  *     11 value       a line not five words                                    that line, from 0
- *     12 space       lent row words fewer than 5 times rows                   0
+ *     12 space       reader: lent row words fewer than 5 times the rows       0
+ *     13 full        insertion: rows, out, aux or kept has no room for one    0
+ *                    row more
+ *
+ * They are tested upward, but 13 after 8 and before 9; the reader tests 10, then line after line 11
+ * before 9, then 6, then 12.
  */
 #ifndef RETAKE_H
 #define RETAKE_H
@@ -95,11 +113,12 @@ extern "C" {
 #endif
 
 /* The version of this header and of the archive that is built beside it. A number is added to an enum,
- * a member to the end of a struct or a function in a minor version; anything else moves the major one. */
+ * a member to the end of a struct or a function in a minor version; anything else moves the major one,
+ * or, while that is 0, the minor one. */
 #define RETAKE_VERSION_MAJOR 0
-#define RETAKE_VERSION_MINOR 2
+#define RETAKE_VERSION_MINOR 3
 #define RETAKE_VERSION_PATCH 0
-#define RETAKE_VERSION "0.2.0"
+#define RETAKE_VERSION "0.3.0"
 
 #define RETAKE_ROW_WORDS 5        /* words of a row */
 #define RETAKE_KEPT_WORDS 13      /* words kept after each row */
@@ -133,7 +152,8 @@ enum retake_refusal {
     RETAKE_REFUSED_LIMIT = 9,
     RETAKE_REFUSED_NAMES = 10,
     RETAKE_REFUSED_VALUE = 11,
-    RETAKE_REFUSED_SPACE = 12
+    RETAKE_REFUSED_SPACE = 12,
+    RETAKE_REFUSED_FULL = 13
 };
 
 /* The words of a refusal's number; a text for every number there is. */
@@ -145,13 +165,14 @@ static inline const char *retake_refusal_text(uint32_t number) {
     case RETAKE_REFUSED_BLOCK: return "the frame count is not from 1 to 128";
     case RETAKE_REFUSED_BANK: return "the bank has not 25,344 samples";
     case RETAKE_REFUSED_MAP: return "the map has not the length that the instrument wants";
-    case RETAKE_REFUSED_ROWS: return "the row words are not 1 to 4,096 rows of five";
-    case RETAKE_REFUSED_TAKE: return "out, aux or kept has not the length that the score wants";
-    case RETAKE_REFUSED_POSITION: return "the edited row is not below the row count";
+    case RETAKE_REFUSED_ROWS: return "not 1 to 4,096 rows before and after the call, or too few row words";
+    case RETAKE_REFUSED_TAKE: return "out, aux or kept is shorter than the score needs";
+    case RETAKE_REFUSED_POSITION: return "the position is past the score's end";
     case RETAKE_REFUSED_LIMIT: return "a word is outside its name's limit";
     case RETAKE_REFUSED_NAMES: return "the first line is not the five names, each once";
     case RETAKE_REFUSED_VALUE: return "a line is not five words of eight hexadecimal digits";
     case RETAKE_REFUSED_SPACE: return "the lent row words are fewer than the score needs";
+    case RETAKE_REFUSED_FULL: return "rows, out, aux or kept has no room for one row more";
     default: return "a refusal that this header does not know";
     }
 }
@@ -167,8 +188,8 @@ uint32_t retake_read_score(const uint8_t *text, size_t text_len,
                            uint32_t *rows, size_t rows_len,
                            uint64_t *first, uint64_t *second);
 
-/* Renders a whole score into a take. `bank` is 25,344 samples, 192 waves of 132. `map` is 4,096
- * bytes, 64 rows of 64, for instrument 2; for the others its length is 0.
+/* Renders a score of `count` rows into a take. `bank` is 25,344 samples, 192 waves of 132. `map` is
+ * 4,096 bytes, 64 rows of 64, for instrument 2; for the others its length is 0.
  *
  * Success: *first is the number of rows rendered, *second how often a position was held at its top.
  * Refusals: 1 to 7, then 9. */
@@ -176,6 +197,7 @@ uint32_t retake_render(uint32_t instrument, uint32_t rate, uint32_t frames,
                        const int16_t *bank, size_t bank_len,
                        const uint8_t *map, size_t map_len,
                        const uint32_t *rows, size_t rows_len,
+                       uint64_t count,
                        uint32_t *out, size_t out_len,
                        uint32_t *aux, size_t aux_len,
                        uint32_t *kept, size_t kept_len,
@@ -192,12 +214,50 @@ uint32_t retake_edit(uint32_t instrument, uint32_t rate, uint32_t frames,
                      const int16_t *bank, size_t bank_len,
                      const uint8_t *map, size_t map_len,
                      uint32_t *rows, size_t rows_len,
-                     uint64_t position,
+                     uint64_t count, uint64_t position,
                      uint32_t note, uint32_t timbre, uint32_t morph, uint32_t harmonics, uint32_t restart,
                      uint32_t *out, size_t out_len,
                      uint32_t *aux, size_t aux_len,
                      uint32_t *kept, size_t kept_len,
                      uint64_t *first, uint64_t *second);
+
+/* Puts a row in at `position` of the score, or behind its last row where `position` is `count`. The rows
+ * from there on move up by one place, with their blocks and kept words; each buffer wants room for that.
+ * The score then has `count` + 1 rows: the next call is handed that number. Rendered are the new row and
+ * those after it, to just before the next row that restarts, or whose state before it is the one that it
+ * had where it came from (before row 0 the fresh one), or to the end. Rows and take are handed over as
+ * for an edit, and the take is then that of a fresh rendering.
+ *
+ * Success: *first is the number of rows rendered, at least 1, *second how often a position was held in
+ * them. Refusals: 1 to 8, 13, 9; a count of 4,096 gives 6, and 9 looks at the score with the row put in. */
+uint32_t retake_insert(uint32_t instrument, uint32_t rate, uint32_t frames,
+                       const int16_t *bank, size_t bank_len,
+                       const uint8_t *map, size_t map_len,
+                       uint32_t *rows, size_t rows_len,
+                       uint64_t count, uint64_t position,
+                       uint32_t note, uint32_t timbre, uint32_t morph, uint32_t harmonics, uint32_t restart,
+                       uint32_t *out, size_t out_len,
+                       uint32_t *aux, size_t aux_len,
+                       uint32_t *kept, size_t kept_len,
+                       uint64_t *first, uint64_t *second);
+
+/* Takes row `position` out of the score. The rows after it move down by one place, with their blocks and
+ * kept words; the last old place keeps its words. The score then has `count` - 1 rows: the next call is
+ * handed that number. Rendered are the row now at `position` and those after it, with the same stops as
+ * in an insertion, at `position` too. Rows and take are handed over as for an edit, and the take is then
+ * that of a fresh rendering.
+ *
+ * Success: *first is the number of rows rendered, perhaps 0, *second how often a position was held in
+ * them. Refusals: 1 to 9; a count of 1 gives 6, and 9 looks at the score without the row. */
+uint32_t retake_remove(uint32_t instrument, uint32_t rate, uint32_t frames,
+                       const int16_t *bank, size_t bank_len,
+                       const uint8_t *map, size_t map_len,
+                       uint32_t *rows, size_t rows_len,
+                       uint64_t count, uint64_t position,
+                       uint32_t *out, size_t out_len,
+                       uint32_t *aux, size_t aux_len,
+                       uint32_t *kept, size_t kept_len,
+                       uint64_t *first, uint64_t *second);
 
 /* ---- Words and floats ---- */
 
@@ -277,18 +337,6 @@ static inline retake_report retake_report_of(uint32_t number, uint64_t first, ui
     return report;
 }
 
-/* The row words that the functions are lent: none where the count asks for more than there are, which is
- * refused with 6. */
-static inline size_t retake_rows_lent(const retake_score *score) {
-    return score->count <= score->rows_len / RETAKE_ROW_WORDS ? (size_t)score->count * RETAKE_ROW_WORDS : 0;
-}
-
-/* As many words of a buffer as each row wants times the rows; all of it where it is too short, which is
- * refused with 7. */
-static inline size_t retake_part_lent(size_t length, uint64_t count, uint32_t each) {
-    return each > 0 && count <= length / each ? (size_t)count * each : length;
-}
-
 /* Row `position`, which must be below the score's count. */
 static inline retake_row retake_row_at(const retake_score *score, uint64_t position) {
     const uint32_t *words = score->rows + (size_t)position * RETAKE_ROW_WORDS;
@@ -310,35 +358,60 @@ static inline retake_report retake_read_text(retake_score *score, const char *te
     return retake_report_of(number, first, second);
 }
 
-/* Renders the whole score into the take. Refusals: as retake_render, but 6 for a count of 0 or above
- * 4,096 or fewer row words than 5 times it, and 7 for a buffer that is too short. */
+/* Renders the whole score into the take. Refusals: as retake_render. */
 static inline retake_report retake_render_score(const retake_settings *settings, const retake_score *score,
                                                 const retake_take *take) {
     uint64_t first, second;
     uint32_t number = retake_render(settings->instrument, settings->rate, settings->frames,
                                     settings->bank, settings->bank_len, settings->map, settings->map_len,
-                                    score->rows, retake_rows_lent(score),
-                                    take->out, retake_part_lent(take->out_len, score->count, settings->frames),
-                                    take->aux, retake_part_lent(take->aux_len, score->count, settings->frames),
-                                    take->kept, retake_part_lent(take->kept_len, score->count, RETAKE_KEPT_WORDS),
+                                    score->rows, score->rows_len, score->count,
+                                    take->out, take->out_len, take->aux, take->aux_len, take->kept, take->kept_len,
                                     &first, &second);
     return retake_report_of(number, first, second);
 }
 
-/* Puts a row into the score and renders what depends on it. Settings, score and take are those of the
- * rendering, as the call before left them. Refusals: as retake_edit, with 6 and 7 as above. */
+/* Puts other words into a row and renders what depends on them. Settings, score and take are those of
+ * the rendering, as the call before left them. Refusals: as retake_edit. */
 static inline retake_report retake_edit_row(const retake_settings *settings, const retake_score *score,
                                             const retake_take *take, uint64_t position, retake_row row) {
     uint64_t first, second;
     uint32_t number = retake_edit(settings->instrument, settings->rate, settings->frames,
                                   settings->bank, settings->bank_len, settings->map, settings->map_len,
-                                  score->rows, retake_rows_lent(score), position,
+                                  score->rows, score->rows_len, score->count, position,
                                   retake_word(row.note), retake_word(row.timbre), retake_word(row.morph),
                                   retake_word(row.harmonics), row.restart,
-                                  take->out, retake_part_lent(take->out_len, score->count, settings->frames),
-                                  take->aux, retake_part_lent(take->aux_len, score->count, settings->frames),
-                                  take->kept, retake_part_lent(take->kept_len, score->count, RETAKE_KEPT_WORDS),
+                                  take->out, take->out_len, take->aux, take->aux_len, take->kept, take->kept_len,
                                   &first, &second);
+    return retake_report_of(number, first, second);
+}
+
+/* Puts a row in at a position and renders what depends on it; on success the score's count is one more.
+ * Settings, score and take as for retake_edit_row. Refusals: as retake_insert. */
+static inline retake_report retake_insert_row(const retake_settings *settings, retake_score *score,
+                                              const retake_take *take, uint64_t position, retake_row row) {
+    uint64_t first, second;
+    uint32_t number = retake_insert(settings->instrument, settings->rate, settings->frames,
+                                    settings->bank, settings->bank_len, settings->map, settings->map_len,
+                                    score->rows, score->rows_len, score->count, position,
+                                    retake_word(row.note), retake_word(row.timbre), retake_word(row.morph),
+                                    retake_word(row.harmonics), row.restart,
+                                    take->out, take->out_len, take->aux, take->aux_len, take->kept, take->kept_len,
+                                    &first, &second);
+    if (number == RETAKE_DONE) score->count++;
+    return retake_report_of(number, first, second);
+}
+
+/* Takes a row out and renders what depends on that; on success the score's count is one less. Settings,
+ * score and take as for retake_edit_row. Refusals: as retake_remove. */
+static inline retake_report retake_remove_row(const retake_settings *settings, retake_score *score,
+                                              const retake_take *take, uint64_t position) {
+    uint64_t first, second;
+    uint32_t number = retake_remove(settings->instrument, settings->rate, settings->frames,
+                                    settings->bank, settings->bank_len, settings->map, settings->map_len,
+                                    score->rows, score->rows_len, score->count, position,
+                                    take->out, take->out_len, take->aux, take->aux_len, take->kept, take->kept_len,
+                                    &first, &second);
+    if (number == RETAKE_DONE) score->count--;
     return retake_report_of(number, first, second);
 }
 

@@ -26,7 +26,7 @@ static void fail(const char *what) {
     exit(1);
 }
 
-/* FOLDER/NAME, bent for writing. */
+/* FOLDER/NAME, open for writing. */
 static FILE *create(const char *folder, const char *name) {
     char path[4096];
     FILE *file;

@@ -1,14 +1,15 @@
-/* Reads a score of three rows, renders it on the wavetable voice and edits its second row.
+/* Reads a score of three rows, renders it on the wavetable voice, edits its second row, puts a bar of four rows in and takes it out.
  *
  *     cc -Iinclude examples/c/retake_example.c target/staticlib/libretake_c.a -o target/retake_example
  *     target/retake_example
  */
 #include <inttypes.h>
 #include <stdio.h>
+#include <string.h>
 
 #include "retake.h"
 
-enum { ROWS = 3, FRAMES = 24, SAMPLES = ROWS * FRAMES };
+enum { ROWS = 3, BAR = 4, ROOM = ROWS + BAR, FRAMES = 24, SAMPLES = ROOM * FRAMES };
 
 static const char text[] =
     "note timbre morph harmonics restart\n"
@@ -17,7 +18,8 @@ static const char text[] =
     "42700000 3f000000 00000000 00000000 00000001\n";
 
 static int16_t bank[RETAKE_BANK_LENGTH];
-static uint32_t rows[ROWS * RETAKE_ROW_WORDS], out[SAMPLES], aux[SAMPLES], kept[ROWS * RETAKE_KEPT_WORDS];
+static uint32_t rows[ROOM * RETAKE_ROW_WORDS], out[SAMPLES], aux[SAMPLES], kept[ROOM * RETAKE_KEPT_WORDS];
+static uint32_t before[ROWS * FRAMES];
 
 /* Prints a call's report; 1 if it was refused. */
 static int refused(const char *call, retake_report report) {
@@ -32,8 +34,8 @@ static int refused(const char *call, retake_report report) {
 
 int main(void) {
     const retake_settings settings = {RETAKE_WAVETABLE, 48000, FRAMES, bank, RETAKE_BANK_LENGTH, NULL, 0};
-    const retake_take take = {out, SAMPLES, aux, SAMPLES, kept, ROWS * RETAKE_KEPT_WORDS};
-    retake_score score = {rows, ROWS * RETAKE_ROW_WORDS, 0};
+    const retake_take take = {out, SAMPLES, aux, SAMPLES, kept, ROOM * RETAKE_KEPT_WORDS};
+    retake_score score = {rows, ROOM * RETAKE_ROW_WORDS, 0};
     retake_row row;
     int i;
 
@@ -54,5 +56,24 @@ int main(void) {
     /* Past its limit: the call is refused, and score and take stay as they are. */
     row.timbre = 1.5f;
     if (!refused("edit", retake_edit_row(&settings, &score, &take, 1, row))) return 1;
+
+    /* A bar before row 2, which restarts: it moves up, and only the new rows are rendered. */
+    memcpy(before, out, sizeof before);
+    row.timbre = 0.5f;
+    for (i = 0; i < BAR; i++) {
+        row.note = 60.0f + (float)i;
+        if (refused("insert", retake_insert_row(&settings, &score, &take, (uint64_t)(2 + i), row))) return 1;
+    }
+    printf("with the bar: %" PRIu64 " rows\n", score.count);
+
+    /* The buffers were lent with room for the bar and no more. */
+    if (!refused("insert", retake_insert_row(&settings, &score, &take, 0, row))) return 1;
+
+    /* Out again, its last row first: then nothing is rendered. */
+    for (i = BAR - 1; i >= 0; i--) {
+        if (refused("remove", retake_remove_row(&settings, &score, &take, (uint64_t)(2 + i)))) return 1;
+    }
+    if (memcmp(before, out, sizeof before) != 0) return 1;
+    printf("without it: %" PRIu64 " rows, the samples as before\n", score.count);
     return 0;
 }

@@ -1,5 +1,7 @@
 //! The library's functions over lent buffers.
 
+use std::cmp::Ordering;
+
 use crate::refusal::Refusal;
 use crate::row::{Column, Row};
 use crate::{BANK, KEPT_WORDS, MAP, sys};
@@ -52,6 +54,9 @@ pub struct Setup<'a> {
 
 /// Out and aux samples and the words kept after each row, as the plain functions are lent them. The
 /// word of a sample is its binary32 pattern: [`samples`] shows them as floats.
+///
+/// Each may be longer than the score needs: a call changes nothing past the score that it leaves. Two
+/// takes are equal where all their words are, these too; the take of a [`Reel`](crate::Reel) has none.
 #[derive(Debug, Clone, PartialEq, Eq)]
 pub struct Take {
     /// The words of out, one block for each row.
@@ -70,7 +75,7 @@ impl Take {
     }
 }
 
-/// An accepted rendering or edit.
+/// An accepted rendering, edit, insertion or removal.
 #[derive(Debug, Clone, Copy, PartialEq, Eq)]
 #[non_exhaustive]
 pub struct Report {
@@ -93,6 +98,36 @@ fn answer(call: impl FnOnce(*mut u64, *mut u64) -> u32) -> Result<(u64, u64), Re
         0 => Ok((first, second)),
         number => Err(Refusal::new(number, first)),
     }
+}
+
+/// Calls a C function over a setup, a score and a take, and reads its report. The list is what the
+/// function wants between its map and its take.
+macro_rules! call {
+    ($function:ident, $setup:ident, [$($score:expr),*], $take:ident) => {{
+        let map = $setup.instrument.map();
+        // SAFETY: as in `read_score`.
+        answer(|first, second| unsafe {
+            sys::$function(
+                $setup.instrument.number(),
+                $setup.rate,
+                $setup.frames,
+                $setup.bank.as_ptr(),
+                $setup.bank.len(),
+                map.as_ptr(),
+                map.len(),
+                $($score,)*
+                $take.out.as_mut_ptr(),
+                $take.out.len(),
+                $take.aux.as_mut_ptr(),
+                $take.aux.len(),
+                $take.kept.as_mut_ptr(),
+                $take.kept.len(),
+                first,
+                second,
+            )
+        })
+        .map(|(rows, held)| Report { rows: rows as usize, held })
+    }};
 }
 
 /// The words of row k of a score.
@@ -137,7 +172,7 @@ pub fn read_score(text: &[u8], rows: &mut [u32]) -> Result<usize, Refusal> {
     Ok(count as usize)
 }
 
-/// Renders a whole score into a take.
+/// Renders a whole score, the first `count` rows of the lent words, into a take.
 ///
 /// ```
 /// use wohketa_retake::{BANK, Instrument, Row, Setup, Take, edit, render, samples};
@@ -147,78 +182,110 @@ pub fn read_score(text: &[u8], rows: &mut [u32]) -> Result<usize, Refusal> {
 /// let row = Row { morph: 0.5, ..Row::default() };
 /// let mut rows = [row.words(), row.words()].concat();
 /// let mut take = Take::new(2, setup.frames);
-/// assert_eq!(render(&setup, &rows, &mut take)?.rows, 2);
+/// assert_eq!(render(&setup, &rows, 2, &mut take)?.rows, 2);
 ///
 /// let loud = samples(&take.out)[47];
-/// assert_eq!(edit(&setup, &mut rows, 1, Row { note: 72.0, ..row }, &mut take)?.rows, 1);
+/// assert_eq!(edit(&setup, &mut rows, 2, 1, Row { note: 72.0, ..row }, &mut take)?.rows, 1);
 /// assert_ne!(samples(&take.out)[47], loud);
 /// # Ok::<(), wohketa_retake::Refusal>(())
 /// ```
-pub fn render(setup: &Setup, rows: &[u32], take: &mut Take) -> Result<Report, Refusal> {
-    let map = setup.instrument.map();
-    // SAFETY: as in `read_score`.
-    let (rendered, held) = answer(|first, second| unsafe {
-        sys::retake_render(
-            setup.instrument.number(),
-            setup.rate,
-            setup.frames,
-            setup.bank.as_ptr(),
-            setup.bank.len(),
-            map.as_ptr(),
-            map.len(),
-            rows.as_ptr(),
-            rows.len(),
-            take.out.as_mut_ptr(),
-            take.out.len(),
-            take.aux.as_mut_ptr(),
-            take.aux.len(),
-            take.kept.as_mut_ptr(),
-            take.kept.len(),
-            first,
-            second,
-        )
-    })
-    .map_err(|refusal| refusal.in_row(|k| row_words(rows, k)))?;
-    Ok(Report { rows: rendered as usize, held })
+pub fn render(setup: &Setup, rows: &[u32], count: usize, take: &mut Take) -> Result<Report, Refusal> {
+    call!(retake_render, setup, [rows.as_ptr(), rows.len(), count as u64], take)
+        .map_err(|refusal| refusal.in_row(|k| row_words(rows, k)))
 }
 
-/// Puts a row into the score and renders what depends on it.
+/// Puts other words into row `position` of a score of `count` rows and renders what depends on them.
 ///
 /// The edit starts from the words that the take keeps, and ends where they stay the same: the take is
 /// a fresh rendering's after it if it was one before it, with the same setup. A [`Reel`](crate::Reel)
 /// sees to that.
-pub fn edit(setup: &Setup, rows: &mut [u32], position: usize, row: Row, take: &mut Take) -> Result<Report, Refusal> {
-    let map = setup.instrument.map();
+pub fn edit(
+    setup: &Setup,
+    rows: &mut [u32],
+    count: usize,
+    position: usize,
+    row: Row,
+    take: &mut Take,
+) -> Result<Report, Refusal> {
     let words = row.words();
     let [note, timbre, morph, harmonics, restart] = words;
-    // SAFETY: as in `read_score`.
-    let (rendered, held) = answer(|first, second| unsafe {
-        sys::retake_edit(
-            setup.instrument.number(),
-            setup.rate,
-            setup.frames,
-            setup.bank.as_ptr(),
-            setup.bank.len(),
-            map.as_ptr(),
-            map.len(),
-            rows.as_mut_ptr(),
-            rows.len(),
-            position as u64,
-            note,
-            timbre,
-            morph,
-            harmonics,
-            restart,
-            take.out.as_mut_ptr(),
-            take.out.len(),
-            take.aux.as_mut_ptr(),
-            take.aux.len(),
-            take.kept.as_mut_ptr(),
-            take.kept.len(),
-            first,
-            second,
-        )
+    call!(
+        retake_edit,
+        setup,
+        [rows.as_mut_ptr(), rows.len(), count as u64, position as u64, note, timbre, morph, harmonics, restart],
+        take
+    )
+    .map_err(|refusal| refusal.in_row(|k| if k == position { Some(words.to_vec()) } else { row_words(rows, k) }))
+}
+
+/// Puts a row in at `position` of a score of `count` rows, the rows from there on one place up with
+/// their blocks and kept words, and renders what depends on it. At `count` it becomes the last row.
+///
+/// Rows and take want room for one row more. They then hold `count + 1` rows, and the next call is
+/// handed that number. As an edit does, it starts from the words that the take keeps.
+///
+/// ```
+/// use wohketa_retake::{BANK, Instrument, Reason, Row, Setup, Take, insert, remove, render};
+///
+/// let bank: [i16; BANK] = std::array::from_fn(|i| (i % 132) as i16 * 100);
+/// let setup = Setup { instrument: Instrument::Terrain, rate: 48_000, frames: 24, bank: &bank };
+/// let row = Row { restart: true, ..Row::default() };
+///
+/// // Two rows, and room for a third.
+/// let mut rows = [row.words(), row.words(), [0; 5]].concat();
+/// let mut take = Take::new(3, setup.frames);
+/// render(&setup, &rows, 2, &mut take)?;
+/// let before = take.clone();
+///
+/// // One between them: the last row restarts, so it is moved and not rendered.
+/// assert_eq!(insert(&setup, &mut rows, 2, 1, Row { morph: 0.5, ..row }, &mut take)?.rows, 1);
+/// assert_eq!(take.out[48..], before.out[24..48]);
+///
+/// // A fourth has no room.
+/// assert_eq!(insert(&setup, &mut rows, 3, 3, row, &mut take).unwrap_err().reason, Reason::Full);
+///
+/// // Out again: what was below the count is as before, and nothing had to be rendered.
+/// assert_eq!(remove(&setup, &mut rows, 3, 1, &mut take)?.rows, 0);
+/// assert_eq!(take.out[..48], before.out[..48]);
+/// # Ok::<(), wohketa_retake::Refusal>(())
+/// ```
+pub fn insert(
+    setup: &Setup,
+    rows: &mut [u32],
+    count: usize,
+    position: usize,
+    row: Row,
+    take: &mut Take,
+) -> Result<Report, Refusal> {
+    let words = row.words();
+    let [note, timbre, morph, harmonics, restart] = words;
+    call!(
+        retake_insert,
+        setup,
+        [rows.as_mut_ptr(), rows.len(), count as u64, position as u64, note, timbre, morph, harmonics, restart],
+        take
+    )
+    .map_err(|refusal| {
+        refusal.in_row(|k| match k.cmp(&position) {
+            Ordering::Less => row_words(rows, k),
+            Ordering::Equal => Some(words.to_vec()),
+            Ordering::Greater => row_words(rows, k - 1),
+        })
     })
-    .map_err(|refusal| refusal.in_row(|k| if k == position { Some(words.to_vec()) } else { row_words(rows, k) }))?;
-    Ok(Report { rows: rendered as usize, held })
+}
+
+/// Takes row `position` out of a score of `count` rows, the rows behind it one place down with their
+/// blocks and kept words, and renders what depends on that.
+///
+/// Rows and take then hold `count - 1` rows, and the next call is handed that number; the last old
+/// place keeps its words. As an edit does, it starts from the words that the take keeps.
+pub fn remove(
+    setup: &Setup,
+    rows: &mut [u32],
+    count: usize,
+    position: usize,
+    take: &mut Take,
+) -> Result<Report, Refusal> {
+    call!(retake_remove, setup, [rows.as_mut_ptr(), rows.len(), count as u64, position as u64], take)
+        .map_err(|refusal| refusal.in_row(|k| row_words(rows, if k < position { k } else { k + 1 })))
 }

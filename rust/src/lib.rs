@@ -3,8 +3,9 @@
 //!
 //! A score is a list of [`Row`]s: note, timbre, morph, harmonics and restart. Each row plays one block
 //! of equal length. A [`Reel`] owns a score and the take that it plays: it is made by rendering the
-//! whole score, and [`Reel::edit`] changes one row and renders just the rows that depend on it. The
-//! samples are then what a fresh rendering of the edited score would be, to the bit.
+//! whole score; [`Reel::edit`] changes one row, [`Reel::insert`] puts one in, [`Reel::remove`] takes one
+//! out, and each renders just the rows that depend on it. The samples are then what a fresh rendering of
+//! the score would be, to the bit.
 //!
 //! ```
 //! use wohketa_retake::{BANK, Instrument, Reel, Row, Setup};
@@ -25,15 +26,28 @@
 //! assert_ne!(reel.block(1), before.block(1));
 //! assert_eq!(reel.block(2), before.block(2));
 //!
+//! // Two rows put in before row 2, which moves up and is still not rendered.
+//! for k in 2..4 {
+//!     assert_eq!(reel.insert(k, Row { note: 67.0, ..row })?.rows, k..k + 1);
+//! }
+//! assert_eq!((reel.count(), reel.block(4)), (5, before.block(2)));
+//!
+//! // Taken out again, the last one first: then nothing is rendered.
+//! for k in (2..4).rev() {
+//!     assert!(reel.remove(k)?.rows.is_empty());
+//! }
+//! assert_eq!((reel.count(), reel.block(2)), (3, before.block(2)));
+//!
 //! // A word outside its limit: the edit is refused and changes nothing.
 //! let refusal = reel.edit(2, Row { timbre: 1.5, ..row }).unwrap_err();
 //! assert_eq!(refusal.to_string(), "row 2: timbre is not from 0 to 1 (number 9)");
 //! # Ok::<(), wohketa_retake::Refusal>(())
 //! ```
 //!
-//! [`read_score`], [`render`] and [`edit`] are the library's functions over buffers that the caller
-//! lends: [`edit`] starts from the words that the lent take keeps, whatever they are, and the caller
-//! sees to it that they are those of a rendering with the same setup. [`sys`] has the C functions.
+//! [`read_score`], [`render`], [`edit`], [`insert`] and [`remove`] are the library's functions over
+//! buffers that the caller lends, with the row count beside them: the last three start from the words
+//! that the lent take keeps, whatever they are, and the caller sees to it that they are those of a
+//! rendering with the same setup. [`sys`] has the C functions.
 #![deny(missing_docs)]
 
 mod calls;
@@ -42,7 +56,7 @@ mod refusal;
 mod row;
 pub mod sys;
 
-pub use calls::{Instrument, Report, Setup, Take, edit, read_score, render, samples};
+pub use calls::{Instrument, Report, Setup, Take, edit, insert, read_score, remove, render, samples};
 pub use reel::{Block, Edited, Reel};
 pub use refusal::{Reason, Refusal};
 pub use row::{Column, Row};

@@ -37,6 +37,26 @@ impl Voice {
     }
 }
 
+/// A setup with a bank and a map of its own.
+#[derive(Clone)]
+struct OwnSetup {
+    voice: Voice,
+    rate: u32,
+    frames: u32,
+    bank: Box<[i16; BANK]>,
+}
+
+impl OwnSetup {
+    fn of(setup: &Setup) -> OwnSetup {
+        let (voice, bank) = (Voice::of(setup.instrument), Box::new(*setup.bank));
+        OwnSetup { voice, rate: setup.rate, frames: setup.frames, bank }
+    }
+
+    fn lent(&self) -> Setup<'_> {
+        Setup { instrument: self.voice.instrument(), rate: self.rate, frames: self.frames, bank: &self.bank }
+    }
+}
+
 /// One row's samples.
 #[derive(Debug, Clone, Copy, PartialEq)]
 pub struct Block<'a> {
@@ -46,34 +66,41 @@ pub struct Block<'a> {
     pub aux: &'a [f32],
 }
 
-/// An accepted edit of a reel.
+/// An accepted edit, insertion or removal.
 #[derive(Debug, Clone, PartialEq, Eq)]
 #[non_exhaustive]
 pub struct Edited {
-    /// The rows that were rendered; empty where the row had these words already.
+    /// The rows that were rendered, as they are counted after the call; empty at the position where an
+    /// edit changes no word, or where nothing behind a removed row depends on it.
     pub rows: Range<usize>,
     /// How often a position was held at its top in these rows.
     pub held: u64,
 }
 
+impl Edited {
+    /// What a call at this position reports.
+    fn at(position: usize, report: Report) -> Edited {
+        Edited { rows: position..position + report.rows, held: report.held }
+    }
+}
+
 /// A score and its take: always what a fresh rendering of the score plays, to the bit.
 ///
-/// A reel owns its setup, score and take, and gives none of them out to be changed. So an edit always
-/// meets the take that was rendered from this score with this setup; safe code has no other way to it:
+/// A reel owns its setup, score and take, and gives none of them out to be changed. So an edit, an
+/// insertion or a removal always meets the take that was rendered from this score with this setup; safe
+/// code has no other way to it:
 ///
 /// ```compile_fail,E0616
 /// # use wohketa_retake::{BANK, Instrument, Reel, Row, Setup};
 /// # let bank = [0; BANK];
 /// # let setup = Setup { instrument: Instrument::Wavetable, rate: 48_000, frames: 24, bank: &bank };
 /// # let mut reel = Reel::render(&setup, &[Row::default()]).unwrap();
-/// reel.rate = 44_100;
+/// reel.setup.rate = 44_100;
 /// ```
 #[derive(Clone)]
 pub struct Reel {
-    voice: Voice,
-    rate: u32,
-    frames: u32,
-    bank: Box<[i16; BANK]>,
+    setup: OwnSetup,
+    // Between calls rows and take are just as long as the score; spare room is their vectors' capacity.
     rows: Vec<u32>,
     take: Take,
     rendering: Report,
@@ -87,13 +114,12 @@ impl Reel {
 
     /// Renders a whole score, given as its row words.
     pub fn render_words(setup: &Setup, rows: Vec<u32>) -> Result<Reel, Refusal> {
+        // Part of a row counts as one, so that it is refused.
+        let count = rows.len().div_ceil(Row::WORDS);
         // Past these limits the call is refused before it looks at the take.
-        let count = (rows.len() / Row::WORDS).min(MOST_ROWS);
-        let mut take = Take::new(count, setup.frames.min(MOST_FRAMES));
-        let rendering = calls::render(setup, &rows, &mut take)?;
-        let voice = Voice::of(setup.instrument);
-        let bank = Box::new(*setup.bank);
-        Ok(Reel { voice, rate: setup.rate, frames: setup.frames, bank, rows, take, rendering })
+        let mut take = Take::new(count.min(MOST_ROWS), setup.frames.min(MOST_FRAMES));
+        let rendering = calls::render(setup, &rows, count, &mut take)?;
+        Ok(Reel { setup: OwnSetup::of(setup), rows, take, rendering })
     }
 
     /// Renders a whole score, given as its text.
@@ -125,19 +151,72 @@ impl Reel {
         Ok(self.rendering)
     }
 
-    /// Puts a row into the score and renders what depends on it: from that row to just before the next
-    /// row that restarts, or whose state before it stays the same, or to the end. A refused edit leaves
-    /// the reel as it is.
+    /// Puts other words into a row and renders what depends on them: from that row to just before the
+    /// next row that restarts, or whose state before it stays the same, or to the end. A refused edit
+    /// leaves the reel as it is.
     pub fn edit(&mut self, position: usize, row: Row) -> Result<Edited, Refusal> {
-        let instrument = self.voice.instrument();
-        let setup = Setup { instrument, rate: self.rate, frames: self.frames, bank: &self.bank };
-        let report = calls::edit(&setup, &mut self.rows, position, row, &mut self.take)?;
-        Ok(Edited { rows: position..position + report.rows, held: report.held })
+        let count = self.count();
+        let report = calls::edit(&self.setup.lent(), &mut self.rows, count, position, row, &mut self.take)?;
+        Ok(Edited::at(position, report))
+    }
+
+    /// Puts a row in at a position, the rows from there on one place up, and renders what depends on it,
+    /// from the new row on as far as an edit would. At [`count`](Reel::count) it becomes the last row. A
+    /// refused insertion leaves the reel as it is.
+    ///
+    /// ```
+    /// # use wohketa_retake::{BANK, Instrument, Reel, Row, Setup};
+    /// # let bank: [i16; BANK] = std::array::from_fn(|i| (i % 132) as i16 * 100);
+    /// # let setup = Setup { instrument: Instrument::Wavetable, rate: 48_000, frames: 24, bank: &bank };
+    /// let row = Row { timbre: 0.5, ..Row::default() };
+    /// let mut reel = Reel::render(&setup, &[row, row])?;
+    ///
+    /// // A row at the front moves both, and they are rendered from the state that it leaves.
+    /// assert_eq!(reel.insert(0, Row { note: 72.0, ..row })?.rows, 0..3);
+    ///
+    /// // The samples are those of the three rows rendered afresh.
+    /// let fresh = Reel::render(&setup, &[Row { note: 72.0, ..row }, row, row])?;
+    /// assert_eq!(reel.take(), fresh.take());
+    /// # Ok::<(), wohketa_retake::Refusal>(())
+    /// ```
+    pub fn insert(&mut self, position: usize, row: Row) -> Result<Edited, Refusal> {
+        let count = self.count();
+        // The longest score is refused whatever its room.
+        self.set_count((count + 1).min(MOST_ROWS));
+        let answer = calls::insert(&self.setup.lent(), &mut self.rows, count, position, row, &mut self.take);
+        if answer.is_err() {
+            self.set_count(count);
+        }
+        answer.map(|report| Edited::at(position, report))
+    }
+
+    /// Puts a row in behind the last one: an insertion at [`count`](Reel::count).
+    pub fn push(&mut self, row: Row) -> Result<Edited, Refusal> {
+        self.insert(self.count(), row)
+    }
+
+    /// Takes a row out, the rows behind it one place down, and renders what depends on that, from the row
+    /// now there on as far as an edit would. The only row of a score stays. A refused removal leaves the
+    /// reel as it is.
+    pub fn remove(&mut self, position: usize) -> Result<Edited, Refusal> {
+        let count = self.count();
+        let report = calls::remove(&self.setup.lent(), &mut self.rows, count, position, &mut self.take)?;
+        self.set_count(count - 1);
+        Ok(Edited::at(position, report))
+    }
+
+    /// Makes rows and take as long as a score of this many rows.
+    fn set_count(&mut self, count: usize) {
+        let samples = count * self.setup.frames as usize;
+        self.rows.resize(count * Row::WORDS, 0);
+        self.take.out.resize(samples, 0);
+        self.take.aux.resize(samples, 0);
+        self.take.kept.resize(count * KEPT_WORDS, 0);
     }
 
     /// What the reel is rendered with.
     pub fn setup(&self) -> Setup<'_> {
-        Setup { instrument: self.voice.instrument(), rate: self.rate, frames: self.frames, bank: &self.bank }
+        self.setup.lent()
     }
 
     /// How many rows the score has.
@@ -173,7 +252,7 @@ impl Reel {
 
     /// The block of row k.
     pub fn block(&self, k: usize) -> Option<Block<'_>> {
-        let frames = self.frames as usize;
+        let frames = self.setup.frames as usize;
         let out = self.out().chunks_exact(frames).nth(k)?;
         let aux = self.aux().chunks_exact(frames).nth(k)?;
         Some(Block { out, aux })
@@ -181,7 +260,7 @@ impl Reel {
 
     /// The samples' places in out and aux that belong to rows, as those of [`Edited::rows`].
     pub fn samples_of(&self, rows: Range<usize>) -> Range<usize> {
-        let frames = self.frames as usize;
+        let frames = self.setup.frames as usize;
         rows.start * frames..rows.end * frames
     }
 
@@ -203,7 +282,7 @@ impl Reel {
 
 impl fmt::Debug for Reel {
     fn fmt(&self, f: &mut fmt::Formatter<'_>) -> fmt::Result {
-        let voice = match self.voice {
+        let voice = match self.setup.voice {
             Voice::Wavetable => "Wavetable",
             Voice::Terrain => "Terrain",
             Voice::TerrainWithMap(_) => "TerrainWithMap",
@@ -211,8 +290,8 @@ impl fmt::Debug for Reel {
         };
         f.debug_struct("Reel")
             .field("voice", &voice)
-            .field("rate", &self.rate)
-            .field("frames", &self.frames)
+            .field("rate", &self.setup.rate)
+            .field("frames", &self.setup.frames)
             .field("count", &self.count())
             .finish_non_exhaustive()
     }

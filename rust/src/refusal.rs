@@ -18,20 +18,22 @@ pub enum Reason {
     Bank,
     /// 5: the map has not the length that the instrument wants.
     Map,
-    /// 6: the row words are not 1 to 4,096 rows of five.
+    /// 6: the rows are not 1 to 4,096 before and after the call, or the row words are too few for them.
     Rows,
-    /// 7: out, aux or kept has not the length that the score wants.
+    /// 7: out, aux or kept is shorter than the score needs.
     Take,
-    /// 8: the edited row is not below the row count.
+    /// 8: the position is not below the row count, or in an insertion above it.
     Position,
-    /// 9: a word is outside its name's limit.
+    /// 9: a word of the score, as the call would leave it, is outside its name's limit.
     Limit,
     /// 10: the first line of a text is not the five names, each once.
     Names,
     /// 11: a line of a text is not five words of eight hexadecimal digits.
     Value,
-    /// 12: the lent row words are fewer than the score needs.
+    /// 12: the lent row words are fewer than a text's score needs.
     Space,
+    /// 13: an insertion finds no room for one row more in the row words, out, aux or kept.
+    Full,
     /// A number of the library that this version does not know.
     Other(u32),
 }
@@ -52,6 +54,7 @@ impl Reason {
             10 => Reason::Names,
             11 => Reason::Value,
             12 => Reason::Space,
+            13 => Reason::Full,
             other => Reason::Other(other),
         }
     }
@@ -71,6 +74,7 @@ impl Reason {
             Reason::Names => 10,
             Reason::Value => 11,
             Reason::Space => 12,
+            Reason::Full => 13,
             Reason::Other(number) => number,
         }
     }
@@ -82,13 +86,14 @@ impl Reason {
             Reason::Block => "the frame count is not from 1 to 128",
             Reason::Bank => "the bank has not 25,344 samples",
             Reason::Map => "the map has not the length that the instrument wants",
-            Reason::Rows => "the row words are not 1 to 4,096 rows of five",
-            Reason::Take => "out, aux or kept has not the length that the score wants",
-            Reason::Position => "there is no such row",
+            Reason::Rows => "not 1 to 4,096 rows before and after the call, or too few row words",
+            Reason::Take => "out, aux or kept is shorter than the score needs",
+            Reason::Position => "past the score's end",
             Reason::Limit => "a word is outside its name's limit",
             Reason::Names => "the first line is not the five names, each once",
             Reason::Value => "not five words of eight hexadecimal digits",
             Reason::Space => "the lent row words are fewer than the score needs",
+            Reason::Full => "rows, out, aux or kept has no room for one row more",
             Reason::Other(_) => "a refusal that this version does not know",
         }
     }
@@ -100,8 +105,8 @@ impl Reason {
 pub struct Refusal {
     /// Why.
     pub reason: Reason,
-    /// The first bad row for `Limit` and `Value` (a text's lines of values are its rows), the position
-    /// for `Position`, else 0.
+    /// The first bad row for `Limit`, counted in the score as the call would leave it, and for `Value` (a
+    /// text's lines of values are its rows), the position for `Position`, else 0.
     pub place: u64,
     /// For `Limit`, the first column of that row that is outside its limit.
     pub column: Option<Column>,

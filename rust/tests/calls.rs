@@ -6,7 +6,8 @@ use std::ptr::{null, null_mut};
 
 use common::{ROW, Series, bank, instruments, map, setup};
 use wohketa_retake::{
-    BANK, Column, Instrument, KEPT_WORDS, MAP, Reason, Refusal, Row, Setup, Take, edit, read_score, render, sys,
+    BANK, Column, Instrument, KEPT_WORDS, MAP, Reason, Refusal, Row, Setup, Take, edit, insert, read_score, remove,
+    render, sys,
 };
 
 fn rows(count: usize) -> Vec<u32> {
@@ -33,24 +34,28 @@ fn a_rendering_writes_every_word_of_a_junk_take() {
     for instrument in instruments(&map) {
         let setup = setup(instrument, &bank);
         let (mut take, mut zeros) = (junk(40), Take::new(40, 24));
-        assert_eq!(render(&setup, &rows(40), &mut take).unwrap().rows, 40);
-        render(&setup, &rows(40), &mut zeros).unwrap();
+        assert_eq!(render(&setup, &rows(40), 40, &mut take).unwrap().rows, 40);
+        render(&setup, &rows(40), 40, &mut zeros).unwrap();
         assert_eq!(take, zeros);
     }
 }
 
-/// The words after "NAME " in the lines of a text.
-fn lines_of(text: &str, name: &str) -> Vec<Vec<u32>> {
-    let words = |line: &str| line.split(' ').skip(1).map(|word| word.parse().unwrap()).collect();
-    text.lines().filter(|line| line.split(' ').next() == Some(name)).map(words).collect()
+/// The words of the first line of a text that begins with this name.
+fn words_of(text: &str, name: &str) -> Vec<u32> {
+    let line = text.lines().find(|line| line.split(' ').next() == Some(name)).unwrap();
+    line.split(' ').skip(1).map(|word| word.parse().unwrap()).collect()
 }
 
-/// What the program `c_calls` must print has the model's words for three renderings and an edit of each.
+/// The first take in a text.
+fn take_of(text: &str) -> Take {
+    Take { out: words_of(text, "out"), aux: words_of(text, "aux"), kept: words_of(text, "kept") }
+}
+
+/// What the program `c_calls` must print has the model's words for three renderings, each edited, with a row put in and one
+/// taken out.
 #[test]
 fn samples_and_kept_words_are_the_models() {
     let answers = include_str!("../../crates/c_calls/stdout");
-    let (out, aux, kept) = (lines_of(answers, "out"), lines_of(answers, "aux"), lines_of(answers, "kept"));
-    let score = &lines_of(answers, "rows")[0][..15];
     let bank: Box<[i16; BANK]> = Box::new(std::array::from_fn(|i| (i * 7919 % 32749) as i16));
     let wavetable = Setup { instrument: Instrument::Wavetable, rate: 48_000, frames: 4, bank: &bank };
     let terrain = Setup { instrument: Instrument::TerrainWithMap(&[90; MAP]), rate: 44_100, ..wavetable };
@@ -60,12 +65,23 @@ fn samples_and_kept_words_are_the_models() {
         Row { note: 52.0, timbre: 0.5625, morph: 0.375, harmonics: 0.9375, restart: false },
         Row { note: 40.0, timbre: 0.15625, morph: 0.6875, harmonics: 0.3125, restart: false },
     ];
-    for (at, (setup, row)) in [wavetable, terrain, oscillator].into_iter().zip(rows).enumerate() {
-        let (mut score, mut take) = (score.to_vec(), Take::new(3, 4));
-        render(&setup, &score, &mut take).unwrap();
-        assert_eq!([&take.out, &take.aux, &take.kept], [&out[4 * at], &aux[4 * at], &kept[4 * at]]);
-        edit(&setup, &mut score, 1, row, &mut take).unwrap();
-        assert_eq!([&take.out, &take.aux, &take.kept], [&out[4 * at + 1], &aux[4 * at + 1], &kept[4 * at + 1]]);
+    let put_in = Row { note: 44.0, timbre: 0.25, morph: 0.625, harmonics: 0.875, restart: false };
+    let played: Vec<&str> = answers.split("\nrender ").skip(1).collect();
+    assert_eq!(played.len(), rows.len());
+    for ((setup, row), text) in [wavetable, terrain, oscillator].into_iter().zip(rows).zip(played) {
+        let (rendered, edited) = text.split_once("\nedit ").unwrap();
+        let (edited, inserted) = edited.split_once("\ninsert ").unwrap();
+        let (inserted, removed) = inserted.split_once("\nremove ").unwrap();
+        let mut score = words_of(answers, "rows");
+        let mut take = Take { out: vec![1; 16], aux: vec![2; 16], kept: vec![3; 4 * KEPT_WORDS] };
+        render(&setup, &score, 3, &mut take).unwrap();
+        assert_eq!(take, take_of(rendered));
+        edit(&setup, &mut score, 3, 1, row, &mut take).unwrap();
+        assert_eq!((&score, &take), (&words_of(edited, "rows"), &take_of(edited)));
+        insert(&setup, &mut score, 3, 1, put_in, &mut take).unwrap();
+        assert_eq!((&score, &take), (&words_of(inserted, "rows"), &take_of(inserted)));
+        remove(&setup, &mut score, 4, 0, &mut take).unwrap();
+        assert_eq!((&score, &take), (&words_of(removed, "rows"), &take_of(removed)));
     }
 }
 
@@ -75,7 +91,7 @@ fn each_instrument_plays_its_own_samples() {
     let takes = instruments(&map).map(|instrument| {
         let mut take = Take::new(2, 24);
         let row = Row { harmonics: 1.0, ..ROW };
-        render(&setup(instrument, &bank), &[row.words(), row.words()].concat(), &mut take).unwrap();
+        render(&setup(instrument, &bank), &[row.words(), row.words()].concat(), 2, &mut take).unwrap();
         take
     });
     for (at, take) in takes.iter().enumerate() {
@@ -91,14 +107,14 @@ fn the_oscillator_hears_neither_morph_nor_harmonics() {
     let bank = bank();
     let setup = setup(Instrument::Oscillator, &bank);
     let (mut score, mut take) = (rows(5), junk(5));
-    render(&setup, &score, &mut take).unwrap();
+    render(&setup, &score, 5, &mut take).unwrap();
     let before = take.clone();
     let other = Row { timbre: 0.2, morph: 1.0, harmonics: 0.0, ..ROW };
-    let report = edit(&setup, &mut score, 2, other, &mut take).unwrap();
+    let report = edit(&setup, &mut score, 5, 2, other, &mut take).unwrap();
     assert_eq!((report.rows, report.held), (1, 0));
     assert_eq!(take, before);
     let loud = Row { morph: 1.5, ..ROW };
-    assert_eq!(refused(edit(&setup, &mut score, 2, loud, &mut take)), (Reason::Limit, 2));
+    assert_eq!(refused(edit(&setup, &mut score, 5, 2, loud, &mut take)), (Reason::Limit, 2));
 }
 
 #[test]
@@ -108,10 +124,14 @@ fn a_waveform_past_the_last_wave_is_held() {
     let bright = Row { timbre: 1.0, ..ROW };
     let mut score = [Row { timbre: 0.519_531_25, ..ROW }.words(), bright.words(), bright.words()].concat();
     let mut take = Take::new(3, 52);
-    let report = render(&setup, &score, &mut take).unwrap();
+    let report = render(&setup, &score, 3, &mut take).unwrap();
     assert_eq!((report.rows, report.held), (3, 53));
-    let report = edit(&setup, &mut score, 2, Row { timbre: 0.5, ..ROW }, &mut take).unwrap();
+    let report = edit(&setup, &mut score, 3, 2, Row { timbre: 0.5, ..ROW }, &mut take).unwrap();
     assert_eq!((report.rows, report.held), (1, 0));
+    let report = remove(&setup, &mut score, 3, 2, &mut take).unwrap();
+    assert_eq!((report.rows, report.held), (0, 0));
+    let report = insert(&setup, &mut score, 2, 1, bright, &mut take).unwrap();
+    assert_eq!((report.rows, report.held), (2, 53));
 }
 
 #[test]
@@ -123,7 +143,7 @@ fn an_edit_of_a_junk_take_starts_from_its_words_and_stops_where_they_stay() {
 
     // Junk is never the state that a row leaves: the edit goes to the end.
     let (mut edited, mut take) = (score.clone(), junk(8));
-    assert_eq!(edit(&setup, &mut edited, 3, row, &mut take).unwrap().rows, 5);
+    assert_eq!(edit(&setup, &mut edited, 8, 3, row, &mut take).unwrap().rows, 5);
     let before = junk(8);
     assert_eq!(take.out[..72], before.out[..72]);
     assert_eq!(take.aux[..72], before.aux[..72]);
@@ -134,18 +154,18 @@ fn an_edit_of_a_junk_take_starts_from_its_words_and_stops_where_they_stay() {
     let (mut edited, mut known) = (score.clone(), junk(8));
     let fifth = 5 * KEPT_WORDS..6 * KEPT_WORDS;
     known.kept[fifth.clone()].copy_from_slice(&take.kept[fifth]);
-    assert_eq!(edit(&setup, &mut edited, 3, row, &mut known).unwrap().rows, 3);
+    assert_eq!(edit(&setup, &mut edited, 8, 3, row, &mut known).unwrap().rows, 3);
     assert_eq!(known.out[..144], take.out[..144]);
     assert_eq!(known.out[144..], before.out[144..]);
     assert_eq!(known.kept[6 * KEPT_WORDS..], before.kept[6 * KEPT_WORDS..]);
 
     // Another take before row 3 gives another row 3; row 0 begins afresh whatever the take.
     let (mut edited, mut zeros) = (score.clone(), Take::new(8, 24));
-    edit(&setup, &mut edited, 3, row, &mut zeros).unwrap();
+    edit(&setup, &mut edited, 8, 3, row, &mut zeros).unwrap();
     assert_ne!(zeros.out[72..96], take.out[72..96]);
     let (mut first, mut second) = (junk(8), Take::new(8, 24));
-    edit(&setup, &mut score.clone(), 0, row, &mut first).unwrap();
-    edit(&setup, &mut score.clone(), 0, row, &mut second).unwrap();
+    edit(&setup, &mut score.clone(), 8, 0, row, &mut first).unwrap();
+    edit(&setup, &mut score.clone(), 8, 0, row, &mut second).unwrap();
     assert_eq!(first, second);
 }
 
@@ -154,29 +174,220 @@ fn an_edit_of_the_same_words_renders_nothing() {
     let bank = bank();
     let setup = setup(Instrument::Wavetable, &bank);
     let mut take = junk(1);
-    let report = edit(&setup, &mut ROW.words(), 0, ROW, &mut take).unwrap();
+    let report = edit(&setup, &mut ROW.words(), 1, 0, ROW, &mut take).unwrap();
     assert_eq!((report.rows, report.held), (0, 0));
     assert_eq!(take, junk(1));
+}
+
+/// A take of junk that keeps other words after one row.
+fn junk_with(rows: usize, k: usize, words: &[u32]) -> Take {
+    let mut take = junk(rows);
+    take.kept[k * KEPT_WORDS..][..KEPT_WORDS].copy_from_slice(words);
+    take
+}
+
+fn kept(take: &Take, k: usize) -> &[u32] {
+    &take.kept[k * KEPT_WORDS..][..KEPT_WORDS]
+}
+
+#[test]
+fn an_insertion_into_a_junk_take_measures_rows_where_they_came_from() {
+    let bank = bank();
+    let setup = setup(Instrument::Wavetable, &bank);
+    let row = Row { morph: 0.75, ..ROW };
+
+    // Junk is never the state that a row leaves: the insertion goes to the end.
+    let (mut score, mut take) = (rows(9), junk(9));
+    assert_eq!(insert(&setup, &mut score, 8, 3, row, &mut take).unwrap().rows, 6);
+    assert_eq!(score, [&rows(3)[..], &row.words(), &rows(8)[15..]].concat());
+    assert_eq!((&take.out[..72], &take.aux[..72]), (&junk(9).out[..72], &junk(9).aux[..72]));
+    assert_eq!(take.kept[..3 * KEPT_WORDS], junk(9).kept[..3 * KEPT_WORDS]);
+
+    // Row 6 was row 5: with the words of its state kept after row 4 before, it is moved and not rendered.
+    let mut known = junk_with(9, 4, kept(&take, 5));
+    assert_eq!(insert(&setup, &mut rows(9), 8, 3, row, &mut known).unwrap().rows, 3);
+    assert_eq!(known.out[..144], take.out[..144]);
+    assert_eq!((&known.out[144..], &known.aux[144..]), (&junk(9).out[120..192], &junk(9).aux[120..192]));
+    assert_eq!(known.kept[6 * KEPT_WORDS..], junk(9).kept[5 * KEPT_WORDS..8 * KEPT_WORDS]);
+
+    // The same words at another place are no stop.
+    for k in [3, 5, 6] {
+        let mut other = junk_with(9, k, kept(&take, 5));
+        assert_eq!(insert(&setup, &mut rows(9), 8, 3, row, &mut other).unwrap().rows, 6);
+    }
+
+    // Behind the last row nothing is left to measure.
+    let mut take = junk(9);
+    assert_eq!(insert(&setup, &mut rows(9), 8, 8, row, &mut take).unwrap().rows, 1);
+    assert_eq!(take.out[..192], junk(9).out[..192]);
+}
+
+#[test]
+fn a_removal_from_a_junk_take_measures_rows_where_they_came_from() {
+    let bank = bank();
+    let setup = setup(Instrument::Wavetable, &bank);
+
+    // Row 3 was row 4, and the state now before it is another: the removal goes to the end.
+    let (mut score, mut take) = (rows(8), junk(8));
+    assert_eq!(remove(&setup, &mut score, 8, 3, &mut take).unwrap().rows, 4);
+    assert_eq!(score, [&rows(8)[..15], &rows(8)[20..], &rows(8)[35..]].concat());
+    assert_eq!(take.out[..72], junk(8).out[..72]);
+    assert_eq!((&take.out[168..], &take.aux[168..]), (&junk(8).out[168..], &junk(8).aux[168..]));
+    assert_eq!(take.kept[7 * KEPT_WORDS..], junk(8).kept[7 * KEPT_WORDS..]);
+
+    // Row 5 was row 6: it had the state that was kept after row 5.
+    let mut known = junk_with(8, 5, kept(&take, 4));
+    assert_eq!(remove(&setup, &mut rows(8), 8, 3, &mut known).unwrap().rows, 2);
+    assert_eq!(known.out[..120], take.out[..120]);
+    assert_eq!(known.out[120..168], junk(8).out[144..]);
+    assert_eq!(known.kept[5 * KEPT_WORDS..7 * KEPT_WORDS], junk(8).kept[6 * KEPT_WORDS..]);
+
+    // The removed row left the state that it found: what follows is moved, and nothing is rendered.
+    let mut same = junk_with(8, 3, kept(&junk(8), 2));
+    let report = remove(&setup, &mut rows(8), 8, 3, &mut same).unwrap();
+    assert_eq!((report.rows, report.held), (0, 0));
+    assert_eq!(same.out, [&junk(8).out[..72], &junk(8).out[96..], &junk(8).out[168..]].concat());
+
+    // The last row leaves nothing to measure.
+    let mut take = junk(8);
+    assert_eq!(remove(&setup, &mut rows(8), 8, 7, &mut take).unwrap().rows, 0);
+    assert_eq!(take, junk(8));
+}
+
+/// Row 0 begins afresh whatever its words; the row that comes to stand there, or no longer does, is measured by that.
+#[test]
+fn the_state_before_row_0_is_the_fresh_one() {
+    let (bank, map) = (bank(), map());
+    for instrument in instruments(&map) {
+        let setup = setup(instrument, &bank);
+        // Another row in front, and a copy of the only one.
+        for row in [Row { note: 50.0, ..ROW }, ROW] {
+            let (mut score, mut take, mut fresh) = ([ROW.words(), [0; 5]].concat(), junk(2), junk(2));
+            render(&setup, &score, 1, &mut take).unwrap();
+            let alone = take.out[..24].to_vec();
+            assert_eq!(insert(&setup, &mut score, 1, 0, row, &mut take).unwrap().rows, 2);
+            render(&setup, &score, 2, &mut fresh).unwrap();
+            assert_eq!(take, fresh);
+            assert_eq!(remove(&setup, &mut score, 2, 0, &mut take).unwrap().rows, 1);
+            assert_eq!((&take.out[..24], &take.out[24..]), (&alone[..], &fresh.out[24..]));
+        }
+    }
+}
+
+#[test]
+fn after_each_call_the_take_is_fresh_below_the_count_and_as_it_was_above_it() {
+    const ROOM: usize = 12;
+    let (bank, map) = (bank(), map());
+    for instrument in instruments(&map) {
+        let setup = setup(instrument, &bank);
+        let mut series = Series(11);
+        let (mut score, mut take, mut count) = (rows(ROOM), junk(ROOM), 5);
+        render(&setup, &score, count, &mut take).unwrap();
+        assert_eq!((&score, &take.out[120..]), (&rows(ROOM), &junk(ROOM).out[120..]));
+        let mut refused = 0;
+        for _ in 0..300 {
+            let (old_score, old) = (score.clone(), take.clone());
+            let (at, row) = (series.below(count as u32 + 2) as usize, series.row());
+            let reason_if = |refused: bool, reason| refused.then_some(reason);
+            let past = reason_if(at >= count, Reason::Position);
+            let (answer, left, reason) = match series.below(5) {
+                0 => (edit(&setup, &mut score, count, at, row, &mut take), count, past),
+                1 | 2 => {
+                    let reason = reason_if(at > count, Reason::Position).or(reason_if(count == ROOM, Reason::Full));
+                    (insert(&setup, &mut score, count, at, row, &mut take), count + 1, reason)
+                }
+                _ => {
+                    let reason = reason_if(count == 1, Reason::Rows).or(past);
+                    (remove(&setup, &mut score, count, at, &mut take), count - 1, reason)
+                }
+            };
+            assert_eq!(answer.err().map(|refusal| refusal.reason), reason);
+            if reason.is_some() {
+                assert_eq!((&score, &take), (&old_score, &old));
+                refused += 1;
+                continue;
+            }
+            count = left;
+            let mut fresh = old;
+            render(&setup, &score, count, &mut fresh).unwrap();
+            assert_eq!((&score[count * 5..], &take), (&old_score[count * 5..], &fresh));
+        }
+        assert!((20..150).contains(&refused));
+    }
 }
 
 #[test]
 fn refusals_have_their_reason_and_place_and_change_nothing() {
     let bank = bank();
     let good = setup(Instrument::Terrain, &bank);
-    let mut score = rows(3);
-    let mut take = junk(3);
-    let mut render_with = |setup: Setup| refused(render(&setup, &score, &mut take));
-    assert_eq!(render_with(Setup { rate: 31_999, ..good }), (Reason::Rate, 0));
-    assert_eq!(render_with(Setup { rate: 192_001, ..good }), (Reason::Rate, 0));
-    assert_eq!(render_with(Setup { frames: 0, ..good }), (Reason::Block, 0));
-    assert_eq!(render_with(Setup { frames: 129, ..good }), (Reason::Block, 0));
-    assert_eq!(refused(render(&good, &score[1..], &mut take)), (Reason::Rows, 0));
-    assert_eq!(refused(render(&good, &score[5..], &mut take)), (Reason::Take, 0));
-    assert_eq!(refused(edit(&good, &mut score, 3, ROW, &mut take)), (Reason::Position, 3));
+    let (mut score, mut take) = (rows(3), junk(3));
+    // All four calls at row 0, which refuse these alike.
+    let mut all = |setup: Setup, words: usize, count: usize| {
+        let lent = &mut score[..words];
+        let answers = [
+            refused(render(&setup, lent, count, &mut take)),
+            refused(edit(&setup, lent, count, 0, ROW, &mut take)),
+            refused(insert(&setup, lent, count, 0, ROW, &mut take)),
+            refused(remove(&setup, lent, count, 0, &mut take)),
+        ];
+        assert_eq!(answers, [answers[0]; 4]);
+        answers[0]
+    };
+    assert_eq!(all(Setup { rate: 31_999, ..good }, 15, 3), (Reason::Rate, 0));
+    assert_eq!(all(Setup { rate: 192_001, ..good }, 15, 3), (Reason::Rate, 0));
+    assert_eq!(all(Setup { frames: 0, ..good }, 15, 3), (Reason::Block, 0));
+    assert_eq!(all(Setup { frames: 129, ..good }, 15, 3), (Reason::Block, 0));
+    assert_eq!(all(good, 14, 3), (Reason::Rows, 0));
+    assert_eq!(all(good, 15, 0), (Reason::Rows, 0));
+    assert_eq!(all(good, 15, 4), (Reason::Rows, 0));
+    assert_eq!(all(good, 15, usize::MAX), (Reason::Rows, 0));
+    assert_eq!(all(Setup { frames: 25, ..good }, 15, 3), (Reason::Take, 0));
+
+    assert_eq!(refused(edit(&good, &mut score, 3, 3, ROW, &mut take)), (Reason::Position, 3));
+    assert_eq!(refused(insert(&good, &mut score, 3, 4, ROW, &mut take)), (Reason::Position, 4));
+    assert_eq!(refused(remove(&good, &mut score, 3, 3, &mut take)), (Reason::Position, 3));
     let loud = Row { timbre: 1.5, ..ROW };
-    assert_eq!(refused(edit(&good, &mut score, 2, loud, &mut take)), (Reason::Limit, 2));
+    assert_eq!(refused(edit(&good, &mut score, 3, 2, loud, &mut take)), (Reason::Limit, 2));
+    assert_eq!(refused(insert(&good, &mut score, 3, 2, loud, &mut take)), (Reason::Full, 0));
+    assert_eq!(refused(insert(&good, &mut score, 2, 2, loud, &mut take)), (Reason::Limit, 2));
+    assert_eq!(refused(remove(&good, &mut score, 1, 9, &mut take)), (Reason::Rows, 0));
     assert_eq!(score, rows(3));
     assert_eq!(take, junk(3));
+}
+
+#[test]
+fn the_longest_score_can_be_edited_and_shortened_but_not_lengthened() {
+    let bank = bank();
+    let setup = Setup { frames: 1, ..setup(Instrument::Oscillator, &bank) };
+    let (mut score, mut take) = (rows(4_097), Take::new(4_097, 1));
+    assert_eq!(refused(render(&setup, &score, 4_097, &mut take)), (Reason::Rows, 0));
+    assert_eq!(render(&setup, &score, 4_096, &mut take).unwrap().rows, 4_096);
+    assert_eq!(refused(insert(&setup, &mut score, 4_096, 9_999, ROW, &mut take)), (Reason::Rows, 0));
+    let high = Row { note: 72.0, ..ROW };
+    assert_eq!(edit(&setup, &mut score, 4_096, 4_095, high, &mut take).unwrap().rows, 1);
+    assert_eq!(remove(&setup, &mut score, 4_096, 4_095, &mut take).unwrap().rows, 0);
+    assert_eq!(insert(&setup, &mut score, 4_095, 0, ROW, &mut take).unwrap().rows, 4_096);
+}
+
+/// Each buffer in its turn has all but one word of the place for one row more.
+#[test]
+fn part_of_a_place_is_no_room() {
+    let bank = bank();
+    let setup = setup(Instrument::Terrain, &bank);
+    let whole = |take: &Take| [20, take.out.len(), take.aux.len(), take.kept.len()];
+    for buffer in 0..4 {
+        let (mut lengths, mut take) = (whole(&junk(4)), junk(4));
+        lengths[buffer] -= 1;
+        let mut score = rows(4);
+        score.truncate(lengths[0]);
+        take.out.truncate(lengths[1]);
+        take.aux.truncate(lengths[2]);
+        take.kept.truncate(lengths[3]);
+        assert_eq!(refused(insert(&setup, &mut score, 3, 1, ROW, &mut take)), (Reason::Full, 0));
+        assert_eq!(render(&setup, &score, 3, &mut take).unwrap().rows, 3);
+        assert!(remove(&setup, &mut score, 3, 1, &mut take).is_ok());
+        assert!(insert(&setup, &mut score, 2, 1, ROW, &mut take).is_ok());
+    }
 }
 
 /// The numbers that no safe call can bring about; every buffer of length 0 is null.
@@ -184,13 +395,24 @@ fn refusals_have_their_reason_and_place_and_change_nothing() {
 fn instruments_and_lengths_of_other_callers_are_refused() {
     let bank = bank();
     let reason = |instrument: u32, bank_len: usize| {
-        let (call, none, mut first, mut second) = (sys::retake_render, null_mut(), 7, 7);
-        let (x, y) = (&mut first, &mut second);
+        let (none, mut first, mut second) = (null_mut(), 7, 7);
+        let (a, b, x, y) = (bank.as_ptr(), null(), &mut first, &mut second);
         // SAFETY: `bank_len` is at most the bank's length.
-        let number = unsafe {
-            call(instrument, 48_000, 24, bank.as_ptr(), bank_len, null(), 0, null(), 0, none, 0, none, 0, none, 0, x, y)
+        let numbers = unsafe {
+            let (i, n) = (instrument, bank_len);
+            [
+                sys::retake_render(i, 48_000, 24, a, n, b, 0, none, 0, 1, none, 0, none, 0, none, 0, x, y),
+                sys::retake_edit(
+                    i, 48_000, 24, a, n, b, 0, none, 0, 1, 0, 0, 0, 0, 0, 0, none, 0, none, 0, none, 0, x, y,
+                ),
+                sys::retake_insert(
+                    i, 48_000, 24, a, n, b, 0, none, 0, 1, 0, 0, 0, 0, 0, 0, none, 0, none, 0, none, 0, x, y,
+                ),
+                sys::retake_remove(i, 48_000, 24, a, n, b, 0, none, 0, 1, 0, none, 0, none, 0, none, 0, x, y),
+            ]
         };
-        (Reason::of(number), first, second)
+        assert_eq!(numbers, [numbers[0]; 4]);
+        (Reason::of(numbers[0]), first, second)
     };
     assert_eq!(reason(4, BANK), (Reason::Instrument, 0, 0));
     assert_eq!(reason(0, BANK - 1), (Reason::Bank, 0, 0));
@@ -232,32 +454,47 @@ fn a_refusal_of_a_limit_names_row_and_column() {
         (Row { harmonics: 1.5, ..ROW }, "row 1: harmonics is not from 0 to 1 (number 9)"),
     ];
     for (row, text) in outside {
-        let refusal = edit(&setup, &mut rows(3), 1, row, &mut Take::new(3, 24)).unwrap_err();
+        let refusal = edit(&setup, &mut rows(3), 3, 1, row, &mut Take::new(3, 24)).unwrap_err();
+        assert_eq!(refusal.to_string(), text);
+        let refusal = insert(&setup, &mut rows(3), 2, 1, row, &mut Take::new(3, 24)).unwrap_err();
         assert_eq!(refusal.to_string(), text);
         let score = [ROW.words(), row.words()].concat();
-        let refusal = render(&setup, &score, &mut Take::new(2, 24)).unwrap_err();
+        let refusal = render(&setup, &score, 2, &mut Take::new(2, 24)).unwrap_err();
         assert_eq!(refusal.to_string(), text);
     }
 
-    // A bad row elsewhere in the score refuses an edit as well.
-    let mut score = rows(3);
+    // A bad row elsewhere in the score refuses as well, by its number in the score as it would be.
+    let (mut score, mut take) = (rows(5), Take::new(5, 24));
     score[14] = 2;
-    let refusal = edit(&setup, &mut score, 1, ROW, &mut Take::new(3, 24)).unwrap_err();
+    let refusal = edit(&setup, &mut score, 4, 1, ROW, &mut take).unwrap_err();
     assert_eq!(refusal.to_string(), "row 2: restart is not 0 or 1 (number 9)");
+    let refusal = insert(&setup, &mut score, 4, 1, ROW, &mut take).unwrap_err();
+    assert_eq!(refusal.to_string(), "row 3: restart is not 0 or 1 (number 9)");
+    let refusal = insert(&setup, &mut score, 4, 3, ROW, &mut take).unwrap_err();
+    assert_eq!(refusal.to_string(), "row 2: restart is not 0 or 1 (number 9)");
+    let refusal = remove(&setup, &mut score, 4, 1, &mut take).unwrap_err();
+    assert_eq!(refusal.to_string(), "row 1: restart is not 0 or 1 (number 9)");
+    let refusal = remove(&setup, &mut score, 4, 3, &mut take).unwrap_err();
+    assert_eq!(refusal.to_string(), "row 2: restart is not 0 or 1 (number 9)");
+
+    // Past the count nothing is judged, and the bad row itself may go.
+    render(&setup, &score, 2, &mut take).unwrap();
+    remove(&setup, &mut score, 4, 2, &mut take).unwrap();
+    assert_eq!(score[10..15], rows(5)[15..20]);
 }
 
 #[test]
 fn every_refusal_has_its_number_and_words() {
     let mut texts = Vec::new();
-    for number in 1..=12 {
+    for number in 1..=13 {
         let reason = Reason::of(number);
         assert_eq!(reason.number(), number);
         assert_ne!(reason, Reason::Other(number));
         texts.push(format!("{reason:?}"));
     }
     texts.dedup();
-    assert_eq!(texts.len(), 12);
-    for number in [0, 13, u32::MAX] {
+    assert_eq!(texts.len(), 13);
+    for number in [0, 14, u32::MAX] {
         assert_eq!((Reason::of(number), Reason::of(number).number()), (Reason::Other(number), number));
     }
     let text = |text: &[u8]| read_score(text, &mut []).unwrap_err().to_string();
@@ -266,8 +503,18 @@ fn every_refusal_has_its_number_and_words() {
     let refusal = "row 0: not five words of eight hexadecimal digits (number 11)";
     assert_eq!(text(format!("{names}60\n").as_bytes()), refusal);
     let bank = bank();
-    let refusal = edit(&setup(Instrument::Terrain, &bank), &mut rows(1), 9, ROW, &mut Take::new(1, 24)).unwrap_err();
-    assert_eq!(refusal.to_string(), "row 9: there is no such row (number 8)");
+    let setup = setup(Instrument::Terrain, &bank);
+    let (mut score, mut take) = (rows(1), Take::new(1, 24));
+    let refusal = edit(&setup, &mut score, 1, 9, ROW, &mut take).unwrap_err();
+    assert_eq!(refusal.to_string(), "row 9: past the score's end (number 8)");
+    let refusal = remove(&setup, &mut score, 1, 0, &mut take).unwrap_err();
+    let text = "not 1 to 4,096 rows before and after the call, or too few row words (number 6)";
+    assert_eq!(refusal.to_string(), text);
+    let refusal = insert(&setup, &mut score, 1, 0, ROW, &mut take).unwrap_err();
+    assert_eq!(refusal.to_string(), "rows, out, aux or kept has no room for one row more (number 13)");
+    take.out.pop();
+    let refusal = render(&setup, &score, 1, &mut take).unwrap_err();
+    assert_eq!(refusal.to_string(), "out, aux or kept is shorter than the score needs (number 7)");
 }
 
 #[test]

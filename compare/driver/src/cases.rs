@@ -1,4 +1,4 @@
-//! Random and adverse inputs: rows, banks, maps, setups, junk takes, texts.
+//! Random and adverse inputs: rows, banks, maps, setups, junk takes, longer buffers, texts.
 
 use model::score::NAMES;
 use model::{BANK, KEPT_WORDS, MAP, ROW_WORDS, Setup, Take};
@@ -25,9 +25,32 @@ impl Case {
         self.rows.len() / ROW_WORDS
     }
 
-    /// A take of this score's lengths, filled with random words.
+    /// A take that is just long enough for this score, filled with random words.
     pub fn junk_take(&self, random: &mut Random) -> Take {
         Take::filled(self.count(), self.frames, || junk_word(random))
+    }
+
+    /// This score and a take of random words, in buffers that are longer by so many words: row words, out,
+    /// aux, kept. Words past the score are random too.
+    pub fn lent_with(&self, random: &mut Random, spare: [usize; 4]) -> Lent {
+        let mut junk = |n: usize| -> Vec<u32> { (0..n).map(|_| junk_word(random)).collect() };
+        let samples = self.count() * self.frames as usize;
+        let [rows, out, aux, kept] = spare;
+        let rows = [self.rows.clone(), junk(rows)].concat();
+        let kept = junk(self.count() * KEPT_WORDS + kept);
+        let take = Take { out: junk(samples + out), aux: junk(samples + aux), kept };
+        Lent { rows, count: self.count() as u64, take }
+    }
+
+    /// The same in buffers with room for so many rows more, now and then for a few more yet, often for part
+    /// of one.
+    pub fn lent(&self, random: &mut Random, places: usize) -> Lent {
+        let frames = self.frames as usize;
+        let spare = [ROW_WORDS, frames, frames, KEPT_WORDS].map(|each| {
+            let places = places + if random.once_in(4) { random.below(3) } else { 0 };
+            places * each + if random.once_in(2) { random.below(each) } else { 0 }
+        });
+        self.lent_with(random, spare)
     }
 
     /// An acceptable case with at most `most` rows.
@@ -40,6 +63,33 @@ impl Case {
         let brightening = instrument == 3 && random.once_in(4);
         let rows = if brightening { brightening_rows(random, count) } else { rows(random, count) };
         Case { instrument, rate, frames, bank, map, rows }
+    }
+
+    /// An acceptable case in which a block has a whole number of periods once the frequency is steady. The
+    /// phase then comes back to where it was, and rows put in or taken out fade as edits do.
+    pub fn whole_periods(random: &mut Random, published: &[i16], most: usize) -> Case {
+        let (instrument, frames) = (random.pick(&[0, 3]), random.pick(&[16, 32, 64, 128]));
+        let count = 1 + random.below(most);
+        let mut rows = if random.once_in(2) { rows(random, count) } else { row(random).repeat(count) };
+        for row in rows.chunks_mut(ROW_WORDS) {
+            row[0] = 105f32.to_bits();
+        }
+        // 3,520 Hz is a sixteenth of the rate.
+        Case { instrument, rate: 56_320, frames, bank: bank(random, published), map: Vec::new(), rows }
+    }
+}
+
+/// What calls are lent: row words and a take, in buffers that may be longer than the score, and its row count.
+#[derive(Debug, Clone)]
+pub struct Lent {
+    pub rows: Vec<u32>,
+    pub count: u64,
+    pub take: Take,
+}
+
+impl Lent {
+    pub fn score(&self) -> &[u32] {
+        &self.rows[..self.count as usize * ROW_WORDS]
     }
 }
 

@@ -1,6 +1,7 @@
 //! The library's calls on any words and lengths, with guard words around each lent buffer.
 
-use model::{Answer, ROW_WORDS, Setup, Take};
+use model::take::Change;
+use model::{Answer, Setup, Take};
 use wohketa_retake::sys;
 
 /// Words before and after a lent buffer that no call may touch.
@@ -58,7 +59,7 @@ pub fn read_score(text: &[u8], rows: &mut [u32]) -> Answer {
     answer
 }
 
-pub fn render(setup: &Setup, rows: &[u32], take: &mut Take) -> Answer {
+pub fn render(setup: &Setup, rows: &[u32], count: u64, take: &mut Take) -> Answer {
     let mut out = Guarded::of(&take.out);
     let mut aux = Guarded::of(&take.aux);
     let mut kept = Guarded::of(&take.kept);
@@ -74,6 +75,7 @@ pub fn render(setup: &Setup, rows: &[u32], take: &mut Take) -> Answer {
             setup.map.len(),
             rows.as_ptr(),
             rows.len(),
+            count,
             out.pointer(),
             out.len(),
             aux.pointer(),
@@ -90,39 +92,68 @@ pub fn render(setup: &Setup, rows: &[u32], take: &mut Take) -> Answer {
     answer
 }
 
-pub fn edit(setup: &Setup, rows: &mut [u32], position: u64, row: [u32; ROW_WORDS], take: &mut Take) -> Answer {
+/// Edit, insertion or removal.
+pub fn change(setup: &Setup, rows: &mut [u32], count: u64, change: &Change, take: &mut Take) -> Answer {
     let mut lent = Guarded::of(rows);
     let mut out = Guarded::of(&take.out);
     let mut aux = Guarded::of(&take.aux);
     let mut kept = Guarded::of(&take.kept);
-    let [note, timbre, morph, harmonics, restart] = row;
     // SAFETY: each pointer goes with its buffer's length.
     let answer = answer(|first, second| unsafe {
-        sys::retake_edit(
-            setup.instrument,
-            setup.rate,
-            setup.frames,
-            setup.bank.as_ptr(),
-            setup.bank.len(),
-            setup.map.as_ptr(),
-            setup.map.len(),
-            lent.pointer(),
-            lent.len(),
-            position,
-            note,
-            timbre,
-            morph,
-            harmonics,
-            restart,
-            out.pointer(),
-            out.len(),
-            aux.pointer(),
-            aux.len(),
-            kept.pointer(),
-            kept.len(),
-            first,
-            second,
-        )
+        match *change {
+            Change::Edit(position, row) | Change::Insert(position, row) => {
+                let edit = matches!(change, Change::Edit(..));
+                let call = if edit { sys::retake_edit } else { sys::retake_insert };
+                let [note, timbre, morph, harmonics, restart] = row;
+                call(
+                    setup.instrument,
+                    setup.rate,
+                    setup.frames,
+                    setup.bank.as_ptr(),
+                    setup.bank.len(),
+                    setup.map.as_ptr(),
+                    setup.map.len(),
+                    lent.pointer(),
+                    lent.len(),
+                    count,
+                    position,
+                    note,
+                    timbre,
+                    morph,
+                    harmonics,
+                    restart,
+                    out.pointer(),
+                    out.len(),
+                    aux.pointer(),
+                    aux.len(),
+                    kept.pointer(),
+                    kept.len(),
+                    first,
+                    second,
+                )
+            }
+            Change::Remove(position) => sys::retake_remove(
+                setup.instrument,
+                setup.rate,
+                setup.frames,
+                setup.bank.as_ptr(),
+                setup.bank.len(),
+                setup.map.as_ptr(),
+                setup.map.len(),
+                lent.pointer(),
+                lent.len(),
+                count,
+                position,
+                out.pointer(),
+                out.len(),
+                aux.pointer(),
+                aux.len(),
+                kept.pointer(),
+                kept.len(),
+                first,
+                second,
+            ),
+        }
     });
     lent.give_back(rows);
     out.give_back(&mut take.out);

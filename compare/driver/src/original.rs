@@ -124,7 +124,8 @@ impl<'a> Original<'a> {
         }
     }
 
-    fn kept(&self) -> [u32; KEPT_WORDS] {
+    /// The 13 words of the state.
+    pub fn kept(&self) -> [u32; KEPT_WORDS] {
         let mut words = [0; KEPT_WORDS];
         let put = |words: &mut [u32], floats: &[f32]| {
             for (w, x) in words.iter_mut().zip(floats) {

@@ -1,8 +1,8 @@
-//! Document 01 and document 02's third voice (N1) in plain Rust, frame by frame, written for being read
-//! and not for speed.
+//! Document 01 and document 02's third voice (N1) and rows put in and taken out (N2) in plain Rust, frame
+//! by frame, written for being read and not for speed.
 //!
-//! It is the judge wherever the original has no answer: holds, kept words, row edits, refusals, the
-//! score text and the program. Elsewhere the comparison holds it to the original, bit for bit.
+//! It is the judge wherever the original has no answer: holds, kept words, edits, insertions, removals,
+//! refusals, the score text and the program. Elsewhere the comparison holds it to the original, bit for bit.
 //! Only the published tables (sine, pitch ratios) are taken from the original's files.
 
 pub mod floats;
@@ -35,7 +35,7 @@ pub const RATES: std::ops::RangeInclusive<u32> = 32_000..=192_000;
 /// The result of a call.
 #[derive(Debug, Clone, Copy, PartialEq, Eq)]
 pub enum Answer {
-    /// (row count, 0) of the reader; (rows rendered, `held` of these rows) of rendering and edit.
+    /// (row count, 0) of the reader; (rows rendered, `held` of these rows) of the other calls.
     Done(u64, u64),
     /// Number and place.
     Refused(u32, u64),
@@ -60,7 +60,7 @@ pub struct Take {
 }
 
 impl Take {
-    /// A take of the lengths that `rows` rows of `frames` frames want, filled by `word`.
+    /// A take with room for `rows` rows of `frames` frames, filled by `word`.
     pub fn filled(rows: usize, frames: u32, mut word: impl FnMut() -> u32) -> Take {
         let mut words = |n: usize| (0..n).map(|_| word()).collect();
         let samples = rows * frames as usize;

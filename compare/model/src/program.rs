@@ -1,7 +1,7 @@
 //! "The program `retake`".
 
 use crate::score::{self, NAMES};
-use crate::take::{edit, render};
+use crate::take::{Change, change, render};
 use crate::{Answer, BANK, ROW_WORDS, Setup, Take};
 
 const TEXT_BYTES: usize = 8_192;
@@ -63,13 +63,14 @@ pub fn run(score: &[u8], edits: &[u8], bank: &[u8]) -> Run {
         Err(Answer::Done(..)) => unreachable!(),
     };
     let setup = Setup { instrument: 0, rate: 48_000, frames: 24, bank: &bank, map: &[] };
-    let mut take = Take::filled(rows.len() / ROW_WORDS, setup.frames, || 0);
-    render(&setup, &rows, &mut take);
+    let count = rows.len() / ROW_WORDS;
+    let mut take = Take::filled(count, setup.frames, || 0);
+    render(&setup, &rows, count as u64, &mut take);
 
     let mut printed = String::from("row rendered held\n");
     for [note, timbre, morph, harmonics, restart, row] in edits {
-        let words = [note, timbre, morph, harmonics, restart];
-        printed += &match edit(&setup, &mut rows, u64::from(row), words, &mut take) {
+        let edit = Change::Edit(u64::from(row), [note, timbre, morph, harmonics, restart]);
+        printed += &match change(&setup, &mut rows, count as u64, &edit, &mut take) {
             Answer::Done(rendered, held) => format!("{row} {rendered} {held}\n"),
             Answer::Refused(number, place) => refusal_line(number, place),
         };

@@ -1,5 +1,6 @@
-//! "Rows, states, retakes" and "Calls and their numbers": fresh rendering, the calls `render` and
-//! `edit`, and what demand 3 says of an edit.
+//! "Rows, states, retakes" and "Calls and their numbers", with document 02's "Rows put in and taken out"
+//! (N2): fresh rendering, whole rendering, edit, insertion and removal, and what demand 3 says of these
+//! three.
 
 use crate::score::row_within;
 use crate::voice::{Block, Voice};
@@ -12,6 +13,56 @@ pub struct Row {
     pub kept: [u32; KEPT_WORDS],
 }
 
+/// What a call changes in the score: at a position, and to which words.
+#[derive(Debug, Clone, Copy, PartialEq, Eq)]
+pub enum Change {
+    Edit(u64, [u32; ROW_WORDS]),
+    Insert(u64, [u32; ROW_WORDS]),
+    Remove(u64),
+}
+
+impl Change {
+    /// The position, how many rows are taken out there, and the words of the row that is put in.
+    fn parts(&self) -> (u64, usize, &[u32]) {
+        match self {
+            Change::Edit(position, row) => (*position, 1, row),
+            Change::Insert(position, row) => (*position, 0, row),
+            Change::Remove(position) => (*position, 1, &[]),
+        }
+    }
+
+    pub fn position(&self) -> u64 {
+        self.parts().0
+    }
+
+    /// How many rows are taken out, and how many put in.
+    fn rows(&self) -> (usize, usize) {
+        let (_, taken, put) = self.parts();
+        (taken, put.len() / ROW_WORDS)
+    }
+
+    /// The row count after it.
+    pub fn count(&self, count: u64) -> u64 {
+        let (taken, put) = self.rows();
+        count.saturating_sub(taken as u64).saturating_add(put as u64)
+    }
+
+    /// The score after it.
+    pub fn of(&self, score: &[u32]) -> Vec<u32> {
+        let (position, taken, put) = self.parts();
+        let first = position as usize * ROW_WORDS;
+        let mut rows = score.to_vec();
+        rows.splice(first..first + taken * ROW_WORDS, put.iter().copied());
+        rows
+    }
+
+    /// Where row k of the score after it, at or behind the position, stood before; none for the row put in.
+    fn origin(&self, k: usize) -> Option<usize> {
+        let (taken, put) = self.rows();
+        (k >= self.position() as usize + put).then(|| k + taken - put)
+    }
+}
+
 fn row(rows: &[u32], k: usize) -> &[u32] {
     &rows[k * ROW_WORDS..][..ROW_WORDS]
 }
@@ -20,54 +71,68 @@ pub fn restarts(rows: &[u32], k: usize) -> bool {
     row(rows, k)[4] == 1
 }
 
-/// Row k rendered from the 13 words kept after row k - 1.
-fn render_row(setup: &Setup, rows: &[u32], k: usize, before: Option<&[u32]>) -> Row {
-    let mut voice = match before {
-        Some(kept) if !restarts(rows, k) => Voice::of_kept(setup.instrument, kept),
-        _ => Voice::fresh(setup),
-    };
+/// The state before row k by the words kept after each row: the fresh one before row 0.
+fn state_before(setup: &Setup, kept: &[u32], k: usize) -> [u32; KEPT_WORDS] {
+    match k.checked_sub(1) {
+        None => Voice::fresh(setup).kept(),
+        Some(last) => std::array::from_fn(|i| kept[last * KEPT_WORDS + i]),
+    }
+}
+
+/// Row k rendered from the 13 words of the state before it.
+fn render_row(setup: &Setup, rows: &[u32], k: usize, before: [u32; KEPT_WORDS]) -> Row {
+    let fresh = k == 0 || restarts(rows, k);
+    let mut voice = if fresh { Voice::fresh(setup) } else { Voice::of_kept(setup.instrument, &before) };
     let block = voice.render(setup, row(rows, k));
     Row { block, kept: voice.kept() }
 }
 
 /// The fresh rendering of a score that is within its limits.
-pub fn fresh(setup: &Setup, rows: &[u32]) -> Vec<Row> {
+pub fn fresh(setup: &Setup, score: &[u32]) -> Vec<Row> {
+    let mut state = Voice::fresh(setup).kept();
     let mut rendered: Vec<Row> = Vec::new();
-    for k in 0..rows.len() / ROW_WORDS {
-        let before = rendered.last().map(|r| r.kept);
-        rendered.push(render_row(setup, rows, k, before.as_ref().map(|w| w.as_slice())));
+    for k in 0..score.len() / ROW_WORDS {
+        let row = render_row(setup, score, k, state);
+        state = row.kept;
+        rendered.push(row);
     }
     rendered
 }
 
-/// Numbers 1 to 7, upward.
-fn refusal_of_lengths(setup: &Setup, rows: &[u32], take: &Take) -> Option<Answer> {
-    let count = rows.len() / ROW_WORDS;
-    let samples = count * setup.frames as usize;
-    let map = if setup.instrument == 2 { MAP } else { 0 };
-    let number = if setup.instrument > 3 {
-        1
-    } else if !RATES.contains(&setup.rate) {
-        2
-    } else if setup.frames == 0 || setup.frames > FRAMES {
-        3
-    } else if setup.bank.len() != BANK {
-        4
-    } else if setup.map.len() != map {
-        5
-    } else if !rows.len().is_multiple_of(ROW_WORDS) || count == 0 || count > ROWS {
-        6
-    } else if take.out.len() != samples || take.aux.len() != samples || take.kept.len() != KEPT_WORDS * count {
-        7
-    } else {
-        return None;
-    };
-    Some(Answer::Refused(number, 0))
+/// Is there room for so many places of so many words?
+fn room(lent: &[u32], places: u64, each: usize) -> bool {
+    lent.len() as u128 >= u128::from(places) * each as u128
 }
 
-/// Number 9 and the first bad row.
-fn refusal_of_limits(rows: &[u32]) -> Option<Answer> {
-    let bad = rows.chunks(ROW_WORDS).position(|row| !row_within(row))?;
+fn take_room(take: &Take, places: u64, frames: u32) -> bool {
+    let frames = frames as usize;
+    room(&take.out, places, frames) && room(&take.aux, places, frames) && room(&take.kept, places, KEPT_WORDS)
+}
+
+/// The refusals of edit, insertion, removal and (with no change) rendering, in the order of their tests.
+/// The last, 9, reads the resulting score.
+fn refusal(setup: &Setup, rows: &[u32], count: u64, change: Option<&Change>, take: &Take) -> Option<Answer> {
+    let map = if setup.instrument == 2 { MAP } else { 0 };
+    let resulting = change.map_or(count, |change| change.count(count));
+    let countable = |count: u64| (1..=ROWS as u64).contains(&count);
+    let (position, taken, _) = change.map_or((0, 0, &[][..]), Change::parts);
+    let tests = [
+        (1, 0, setup.instrument > 3),
+        (2, 0, !RATES.contains(&setup.rate)),
+        (3, 0, setup.frames == 0 || setup.frames > FRAMES),
+        (4, 0, setup.bank.len() != BANK),
+        (5, 0, setup.map.len() != map),
+        (6, 0, !countable(count) || !room(rows, count, ROW_WORDS) || !countable(resulting)),
+        (7, 0, !take_room(take, count, setup.frames)),
+        (8, position, position.saturating_add(taken as u64) > count),
+        (13, 0, !room(rows, resulting, ROW_WORDS) || !take_room(take, resulting, setup.frames)),
+    ];
+    if let Some((number, place, _)) = tests.into_iter().find(|(_, _, refused)| *refused) {
+        return Some(Answer::Refused(number, place));
+    }
+    let score = &rows[..count as usize * ROW_WORDS];
+    let resulting = change.map_or(score.to_vec(), |change| change.of(score));
+    let bad = resulting.chunks(ROW_WORDS).position(|row| !row_within(row))?;
     Some(Answer::Refused(9, bad as u64))
 }
 
@@ -80,56 +145,66 @@ fn put(take: &mut Take, frames: u32, k: usize, row: &Row) {
 }
 
 /// Whole rendering.
-pub fn render(setup: &Setup, rows: &[u32], take: &mut Take) -> Answer {
-    if let Some(refusal) = refusal_of_lengths(setup, rows, take).or_else(|| refusal_of_limits(rows)) {
+pub fn render(setup: &Setup, rows: &[u32], count: u64, take: &mut Take) -> Answer {
+    if let Some(refusal) = refusal(setup, rows, count, None, take) {
         return refusal;
     }
-    let rendered = fresh(setup, rows);
+    let rendered = fresh(setup, &rows[..count as usize * ROW_WORDS]);
     for (k, row) in rendered.iter().enumerate() {
         put(take, setup.frames, k, row);
     }
     Answer::Done(rendered.len() as u64, rendered.iter().map(|r| r.block.held).sum())
 }
 
-/// A single-row edit, on any take.
-pub fn edit(setup: &Setup, rows: &mut [u32], position: u64, new: [u32; ROW_WORDS], take: &mut Take) -> Answer {
-    if let Some(refusal) = refusal_of_lengths(setup, rows, take) {
+/// Edit, insertion or removal, on any take.
+pub fn change(setup: &Setup, rows: &mut [u32], count: u64, change: &Change, take: &mut Take) -> Answer {
+    if let Some(refusal) = refusal(setup, rows, count, Some(change), take) {
         return refusal;
     }
-    let count = rows.len() / ROW_WORDS;
-    if position >= count as u64 {
-        return Answer::Refused(8, position);
-    }
-    let first = position as usize;
-    let mut edited = rows.to_vec();
-    edited[first * ROW_WORDS..][..ROW_WORDS].copy_from_slice(&new);
-    if let Some(refusal) = refusal_of_limits(&edited) {
-        return refusal;
-    }
-    if edited == rows {
+    let score = &rows[..count as usize * ROW_WORDS];
+    let resulting = change.of(score);
+    if resulting == score {
         return Answer::Done(0, 0);
     }
-    rows.copy_from_slice(&edited);
+    let stood = take.kept.clone();
+    rows[..resulting.len()].copy_from_slice(&resulting);
+    shift(take, setup.frames, count as usize, change);
 
-    let mut held = 0;
-    let mut k = first;
-    loop {
-        let before = (k > 0).then(|| &take.kept[(k - 1) * KEPT_WORDS..][..KEPT_WORDS]);
-        let rendered = render_row(setup, rows, k, before);
-        let same = take.kept[k * KEPT_WORDS..][..KEPT_WORDS] == rendered.kept;
+    // The rows from the position on, up to the end or to one that came from elsewhere and stands as it stood there.
+    let stops = |take: &Take, k: usize| {
+        let same = |from| state_before(setup, &take.kept, k) == state_before(setup, &stood, from);
+        k * ROW_WORDS == resulting.len() || change.origin(k).is_some_and(|from| restarts(&resulting, k) || same(from))
+    };
+    let first = change.position() as usize;
+    let (mut k, mut held) = (first, 0);
+    while !stops(take, k) {
+        let rendered = render_row(setup, &resulting, k, state_before(setup, &take.kept, k));
         put(take, setup.frames, k, &rendered);
         held += rendered.block.held;
         k += 1;
-        if k == count || restarts(rows, k) || same {
-            return Answer::Done((k - first) as u64, held);
-        }
+    }
+    Answer::Done((k - first) as u64, held)
+}
+
+/// Moves the blocks and kept words of the rows behind the change with them. Places past the new count keep
+/// their words.
+fn shift(take: &mut Take, frames: u32, count: usize, change: &Change) {
+    let (taken, put) = change.rows();
+    let first = change.position() as usize;
+    let frames = frames as usize;
+    for (words, each) in [(&mut take.out, frames), (&mut take.aux, frames), (&mut take.kept, KEPT_WORDS)] {
+        words.copy_within((first + taken) * each..count * each, (first + put) * each);
     }
 }
 
-/// What demand 3 says of an edit of row k between the fresh renderings of the score before and after
-/// it: the rows that it renders, and their `held` in the second.
-pub fn demand_3(rows: &[u32], before: &[Row], after: &[Row], k: usize) -> Answer {
-    let stops = |j: usize| j == after.len() || restarts(rows, j) || before[j - 1].kept == after[j - 1].kept;
-    let j = (k + 1..=after.len()).find(|j| stops(*j)).unwrap_or(after.len());
+/// What demand 3 says of a change between the fresh renderings of the score before and after it: the
+/// rows that it renders, and their `held` in the second. `score` is the one after it.
+pub fn demand_3(setup: &Setup, score: &[u32], before: &[Row], after: &[Row], change: &Change) -> Answer {
+    let fresh = Voice::fresh(setup).kept();
+    let states = |rows: &[Row]| -> Vec<_> { std::iter::once(fresh).chain(rows.iter().map(|r| r.kept)).collect() };
+    let (before, states) = (states(before), states(after));
+    let stops = |j: usize, from: usize| j == after.len() || restarts(score, j) || states[j] == before[from];
+    let k = change.position() as usize;
+    let j = (k..=after.len()).find(|j| change.origin(*j).is_some_and(|from| stops(*j, from))).unwrap_or(after.len());
     Answer::Done((j - k) as u64, after[k..j].iter().map(|r| r.block.held).sum())
 }

@@ -1,10 +1,11 @@
-//! The library's three C functions (`include/retake.h`) over the model.
+//! The library's five C functions (`include/retake.h`) over the model.
 //!
 //! # Safety
 //! Each pointer has as many elements behind it as its length says.
 #![allow(clippy::missing_safety_doc)]
 
-use model::{Answer, Setup, Take, score, take};
+use model::take::{self, Change};
+use model::{Answer, Setup, Take, score};
 use std::slice::{from_raw_parts, from_raw_parts_mut};
 
 unsafe fn give(answer: Answer, first: *mut u64, second: *mut u64) -> u32 {
@@ -19,21 +20,32 @@ unsafe fn give(answer: Answer, first: *mut u64, second: *mut u64) -> u32 {
     number
 }
 
-/// A copy of the lent take goes to the model; what it leaves is copied back.
+/// What the calls but the reader are lent.
 struct Lent<'a> {
+    setup: Setup<'a>,
+    count: u64,
     out: &'a mut [u32],
     aux: &'a mut [u32],
     kept: &'a mut [u32],
 }
 
 impl Lent<'_> {
-    fn with(self, call: impl FnOnce(&mut Take) -> Answer) -> Answer {
+    /// A copy of the take goes to the model; what it leaves is copied back.
+    fn with(self, call: impl FnOnce(&Setup, u64, &mut Take) -> Answer) -> Answer {
         let mut take = Take { out: self.out.to_vec(), aux: self.aux.to_vec(), kept: self.kept.to_vec() };
-        let answer = call(&mut take);
+        let answer = call(&self.setup, self.count, &mut take);
         self.out.copy_from_slice(&take.out);
         self.aux.copy_from_slice(&take.aux);
         self.kept.copy_from_slice(&take.kept);
         answer
+    }
+
+    fn render(self, rows: &[u32]) -> Answer {
+        self.with(|setup, count, take| take::render(setup, rows, count, take))
+    }
+
+    fn change(self, rows: &mut [u32], change: Change) -> Answer {
+        self.with(|setup, count, take| take::change(setup, rows, count, &change, take))
     }
 }
 
@@ -63,6 +75,7 @@ pub unsafe extern "C" fn retake_render(
     map_len: usize,
     rows: *const u32,
     rows_len: usize,
+    count: u64,
     out: *mut u32,
     out_len: usize,
     aux: *mut u32,
@@ -74,14 +87,14 @@ pub unsafe extern "C" fn retake_render(
 ) -> u32 {
     unsafe {
         let (bank, map) = (from_raw_parts(bank, bank_len), from_raw_parts(map, map_len));
-        let setup = Setup { instrument, rate, frames, bank, map };
-        let rows = from_raw_parts(rows, rows_len);
         let lent = Lent {
+            setup: Setup { instrument, rate, frames, bank, map },
+            count,
             out: from_raw_parts_mut(out, out_len),
             aux: from_raw_parts_mut(aux, aux_len),
             kept: from_raw_parts_mut(kept, kept_len),
         };
-        give(lent.with(|t| take::render(&setup, rows, t)), first, second)
+        give(lent.render(from_raw_parts(rows, rows_len)), first, second)
     }
 }
 
@@ -96,6 +109,7 @@ pub unsafe extern "C" fn retake_edit(
     map_len: usize,
     rows: *mut u32,
     rows_len: usize,
+    count: u64,
     position: u64,
     note: u32,
     timbre: u32,
@@ -113,14 +127,102 @@ pub unsafe extern "C" fn retake_edit(
 ) -> u32 {
     unsafe {
         let (bank, map) = (from_raw_parts(bank, bank_len), from_raw_parts(map, map_len));
-        let setup = Setup { instrument, rate, frames, bank, map };
-        let rows = from_raw_parts_mut(rows, rows_len);
         let lent = Lent {
+            setup: Setup { instrument, rate, frames, bank, map },
+            count,
             out: from_raw_parts_mut(out, out_len),
             aux: from_raw_parts_mut(aux, aux_len),
             kept: from_raw_parts_mut(kept, kept_len),
         };
-        let row = [note, timbre, morph, harmonics, restart];
-        give(lent.with(|t| take::edit(&setup, rows, position, row, t)), first, second)
+        give(
+            lent.change(
+                from_raw_parts_mut(rows, rows_len),
+                Change::Edit(position, [note, timbre, morph, harmonics, restart]),
+            ),
+            first,
+            second,
+        )
+    }
+}
+
+#[unsafe(no_mangle)]
+pub unsafe extern "C" fn retake_insert(
+    instrument: u32,
+    rate: u32,
+    frames: u32,
+    bank: *const i16,
+    bank_len: usize,
+    map: *const u8,
+    map_len: usize,
+    rows: *mut u32,
+    rows_len: usize,
+    count: u64,
+    position: u64,
+    note: u32,
+    timbre: u32,
+    morph: u32,
+    harmonics: u32,
+    restart: u32,
+    out: *mut u32,
+    out_len: usize,
+    aux: *mut u32,
+    aux_len: usize,
+    kept: *mut u32,
+    kept_len: usize,
+    first: *mut u64,
+    second: *mut u64,
+) -> u32 {
+    unsafe {
+        let (bank, map) = (from_raw_parts(bank, bank_len), from_raw_parts(map, map_len));
+        let lent = Lent {
+            setup: Setup { instrument, rate, frames, bank, map },
+            count,
+            out: from_raw_parts_mut(out, out_len),
+            aux: from_raw_parts_mut(aux, aux_len),
+            kept: from_raw_parts_mut(kept, kept_len),
+        };
+        give(
+            lent.change(
+                from_raw_parts_mut(rows, rows_len),
+                Change::Insert(position, [note, timbre, morph, harmonics, restart]),
+            ),
+            first,
+            second,
+        )
+    }
+}
+
+#[unsafe(no_mangle)]
+pub unsafe extern "C" fn retake_remove(
+    instrument: u32,
+    rate: u32,
+    frames: u32,
+    bank: *const i16,
+    bank_len: usize,
+    map: *const u8,
+    map_len: usize,
+    rows: *mut u32,
+    rows_len: usize,
+    count: u64,
+    position: u64,
+    out: *mut u32,
+    out_len: usize,
+    aux: *mut u32,
+    aux_len: usize,
+    kept: *mut u32,
+    kept_len: usize,
+    first: *mut u64,
+    second: *mut u64,
+) -> u32 {
+    unsafe {
+        let (bank, map) = (from_raw_parts(bank, bank_len), from_raw_parts(map, map_len));
+        let lent = Lent {
+            setup: Setup { instrument, rate, frames, bank, map },
+            count,
+            out: from_raw_parts_mut(out, out_len),
+            aux: from_raw_parts_mut(aux, aux_len),
+            kept: from_raw_parts_mut(kept, kept_len),
+        };
+        give(lent.change(from_raw_parts_mut(rows, rows_len), Change::Remove(position)), first, second)
     }
 }

@@ -1,4 +1,4 @@
-// Calls the C functions by position, each with arguments that are all different, and prints what they return, what they write to `first` and
+// Calls the C functions by position, with arguments that tell them apart, and prints what they return, what they write to `first` and
 // `second`, and every lent word. A contract speaks of a parameter by its name, C binds it by its place: two parameters that change places show here.
 ghost use mathlib.Core.Path.{_≡_};
 ghost use lib.ListN.{length};
@@ -7,6 +7,8 @@ use trial::say_number;
 
 // What stands in a result before a call writes it.
 const UNWRITTEN: u64 = 77;
+
+const FRAMES: u32 = 4;
 
 // Writes a space and a word in decimal.
 fn say_word(w: u32) {
@@ -62,10 +64,10 @@ fn read(text: &[u8], rows: &mut [u32]) {
 fn render(
     instrument: u32,
     rate: u32,
-    frames: u32,
     bank: &[i16],
     map: &[u8],
     rows: &[u32],
+    count: u64,
     out: &mut [u32],
     aux: &mut [u32],
     kept: &mut [u32],
@@ -75,10 +77,11 @@ fn render(
     let number = retake_c::retake_render(
         instrument,
         rate,
-        frames,
+        FRAMES,
         bank,
         map,
         rows,
+        count,
         out,
         aux,
         kept,
@@ -92,10 +95,10 @@ fn render(
 fn edit(
     instrument: u32,
     rate: u32,
-    frames: u32,
     bank: &[i16],
     map: &[u8],
     rows: &mut [u32],
+    count: u64,
     position: u64,
     row: [u32; 5],
     out: &mut [u32],
@@ -107,10 +110,11 @@ fn edit(
     let number = retake_c::retake_edit(
         instrument,
         rate,
-        frames,
+        FRAMES,
         bank,
         map,
         rows,
+        count,
         position,
         row[0],
         row[1],
@@ -128,86 +132,149 @@ fn edit(
     print_take(out, aux, kept);
 }
 
-// The score of the text below, as row words.
-const SCORE: [u32; 15] = [
-    0x42700000,
-    0x3e99999a,
-    0x3dcccccd,
-    0x3f19999a,
-    0,
-    0x42400000,
-    0x3f59999a,
-    0x3f4ccccd,
-    0x3e19999a,
-    1,
-    0x427c0000,
-    0x3f266666,
-    0x3e4ccccd,
-    0x3ecccccd,
-    0,
-];
+fn insert(
+    instrument: u32,
+    rate: u32,
+    bank: &[i16],
+    map: &[u8],
+    rows: &mut [u32],
+    count: u64,
+    position: u64,
+    row: [u32; 5],
+    out: &mut [u32],
+    aux: &mut [u32],
+    kept: &mut [u32],
+) {
+    let mut first = UNWRITTEN;
+    let mut second = UNWRITTEN;
+    let number = retake_c::retake_insert(
+        instrument,
+        rate,
+        FRAMES,
+        bank,
+        map,
+        rows,
+        count,
+        position,
+        row[0],
+        row[1],
+        row[2],
+        row[3],
+        row[4],
+        out,
+        aux,
+        kept,
+        &mut first,
+        &mut second,
+    );
+    print_values(b"insert", number, first, second);
+    say_words(b"rows", rows);
+    print_take(out, aux, kept);
+}
 
-// The score rendered and then edited: an accepted edit, one past the end, one outside a limit.
-fn play(instrument: u32, rate: u32, bank: &[i16], map: &[u8], row: [u32; 5]) {
-    let mut rows = SCORE;
-    let mut out = [1; 12];
-    let mut aux = [2; 12];
-    let mut kept = [3; 39];
-    render(
+fn remove(
+    instrument: u32,
+    rate: u32,
+    bank: &[i16],
+    map: &[u8],
+    rows: &mut [u32],
+    count: u64,
+    position: u64,
+    out: &mut [u32],
+    aux: &mut [u32],
+    kept: &mut [u32],
+) {
+    let mut first = UNWRITTEN;
+    let mut second = UNWRITTEN;
+    let number = retake_c::retake_remove(
         instrument,
         rate,
-        4,
+        FRAMES,
         bank,
         map,
-        &rows,
-        &mut out,
-        &mut aux,
-        &mut kept,
+        rows,
+        count,
+        position,
+        out,
+        aux,
+        kept,
+        &mut first,
+        &mut second,
     );
-    edit(
+    print_values(b"remove", number, first, second);
+    say_words(b"rows", rows);
+    print_take(out, aux, kept);
+}
+
+// The score of three rows rendered and edited: an accepted edit, one past the end, one outside a limit.
+fn edits(
+    instrument: u32,
+    rate: u32,
+    bank: &[i16],
+    map: &[u8],
+    row: [u32; 5],
+    rows: &mut [u32; 20],
+    out: &mut [u32; 16],
+    aux: &mut [u32; 16],
+    kept: &mut [u32; 52],
+) {
+    render(instrument, rate, bank, map, rows, 3, out, aux, kept);
+    edit(instrument, rate, bank, map, rows, 3, 1, row, out, aux, kept);
+    edit(instrument, rate, bank, map, rows, 3, 5, row, out, aux, kept);
+    let row = [row[0], row[1], row[2], 0x3f800001, row[4]];
+    edit(instrument, rate, bank, map, rows, 3, 2, row, out, aux, kept);
+}
+
+// A fourth row put in and one taken out: an accepted insertion, and one with no room left; an accepted removal, and one past the end.
+fn splices(
+    instrument: u32,
+    rate: u32,
+    bank: &[i16],
+    map: &[u8],
+    rows: &mut [u32; 20],
+    out: &mut [u32; 16],
+    aux: &mut [u32; 16],
+    kept: &mut [u32; 52],
+) {
+    let row = [0x42300000, 0x3e800000, 0x3f200000, 0x3f600000, 0];
+    insert(instrument, rate, bank, map, rows, 3, 1, row, out, aux, kept);
+    insert(instrument, rate, bank, map, rows, 4, 2, row, out, aux, kept);
+    remove(instrument, rate, bank, map, rows, 4, 0, out, aux, kept);
+    remove(instrument, rate, bank, map, rows, 3, 3, out, aux, kept);
+}
+
+// The score that was read, rendered and changed in words with room for a row more.
+fn play(instrument: u32, rate: u32, bank: &[i16], map: &[u8], read: [u32; 20], row: [u32; 5]) {
+    let mut rows = read;
+    let mut out = [1; 16];
+    let mut aux = [2; 16];
+    let mut kept = [3; 52];
+    edits(
         instrument,
         rate,
-        4,
         bank,
         map,
-        &mut rows,
-        1,
         row,
+        &mut rows,
         &mut out,
         &mut aux,
         &mut kept,
     );
-    edit(
+    splices(
         instrument,
         rate,
-        4,
         bank,
         map,
         &mut rows,
-        5,
-        row,
-        &mut out,
-        &mut aux,
-        &mut kept,
-    );
-    let loud = [row[0], row[1], row[2], 0x3f800001, row[4]];
-    edit(
-        instrument,
-        rate,
-        4,
-        bank,
-        map,
-        &mut rows,
-        2,
-        loud,
         &mut out,
         &mut aux,
         &mut kept,
     );
 }
 
-fn read_texts() {
-    let mut rows = [0xffffffff; 16];
+// The row words after an accepted text and a refused one.
+fn read_texts() -> [u32; 20] {
+    let mut rows = [0xffffffff; 20];
     read(
         b"harmonics restart note morph timbre
 3f19999a 00000000 42700000 3dcccccd 3e99999a
@@ -223,17 +290,18 @@ fn read_texts() {
 ",
         &mut rows,
     );
+    rows
 }
 
 fn main() {
-    read_texts();
+    let rows = read_texts();
     let mut bank = [0i16; 25344];
     fill_waves(&mut bank);
     let map = [90u8; 4096];
     let row = [0x42600000, 0x3f400000, 0x3e800000, 0x3f000000, 1];
-    play(0, 48000, &bank, &map[..0], row);
+    play(0, 48000, &bank, &map[..0], rows, row);
     let row = [0x42500000, 0x3f100000, 0x3ec00000, 0x3f700000, 0];
-    play(2, 44100, &bank, &map, row);
+    play(2, 44100, &bank, &map, rows, row);
     let row = [0x42200000, 0x3e200000, 0x3f300000, 0x3ea00000, 0];
-    play(3, 96000, &bank, &map[..0], row);
+    play(3, 96000, &bank, &map[..0], rows, row);
 }

@@ -2,3 +2,5 @@
 pub mod Cases
 pub mod Copying
 pub mod Places
+pub mod Moving
+pub mod Shifts

@@ -6,7 +6,7 @@ use Prim.Native.Nat.{ℕ, zero, suc, _+_, _-_, _*_, _≤_, _<_}
 use native.Mathlib.Nat.{suc-mul, mul-le-mul-right}
 use native.Mathlib.Numerals.{add-one}
 use native.Mathlib.Omega.{arith}
-use lib.ListN.{length, take, drop, length-append, length-drop}
+use lib.ListN.{length, take, drop, length-append, length-drop, take-append-drop}
 use lib.Seq.{length-take-le, take-take, take-at, drop-at, drop-drop}
 use Rattle.lists.specs.Lists.{part, put, Outside}
 
@@ -29,6 +29,10 @@ module _ (l x : List ℕ) (a : ℕ) (h : a + length x ≤ length l) where
 
   pub put-same-length : length (put l a x) ≡ length l
   put-same-length = rw (length-append, length-append, front-long, length-drop, length-drop) (omega arith)
+
+-- The numbers that stand there put in change nothing.
+pub put-same : (l x : List ℕ) (a n : ℕ) → length x ≡ n → take n (drop a l) ≡ x → put l a x ≡ l
+put-same l x a n e w = rw (e, sym w, take-append-drop n (drop a l)) (take-append-drop a l)
 
 -- ---- Part k.
 

@@ -1,8 +1,9 @@
-// Runs of words: compared and copied.
+// Runs of words: compared, copied, and moved within a longer one.
 ghost use mathlib.Core.Path.{_≡_};
+ghost use Prim.Native.Nat.{_+_, _-_, _*_, _≤_, _<_};
 ghost use lib.Dec.{eqb};
-ghost use lib.ListN.{length};
-ghost use Rattle.lists.specs.Lists.{same};
+ghost use lib.ListN.{length, take, drop};
+ghost use Rattle.lists.specs.Lists.{put, shiftUp, shiftDown, same};
 
 // Whether two words are the same, pattern by pattern: +0 and -0 differ, and so do two NaNs of different patterns.
 fn same_word(old: u32, new: u32) -> bool
@@ -38,4 +39,76 @@ pub fn copy_words(new: &[u32], words: &mut [u32])
         words[at] = new[at];
         at += 1;
     }
+}
+
+// How many words are moved at a time.
+const HANDFUL: usize = 64;
+
+// As many of some words as are moved at a time.
+fn handful(words: usize) -> usize
+    requires { ⌜ 0 < words ⌝ }
+    ensures { λ r. ⌜ (0 < r) × ((r ≤ words) × (r ≤ 64)) ⌝ }
+{
+    if words < HANDFUL { words } else { HANDFUL }
+}
+
+// A few words copied to another place of the same run, which may overlap their own; `hand` holds them on the way.
+fn move_few(words: &mut [u32], from: usize, to: usize, count: usize, hand: &mut [u32])
+    requires { ⌜ (count ≤ length (now hand)) × ((from + count ≤ length (now words)) × (to + count ≤ length (now words))) ⌝ }
+    ensures { λ _. ⌜ now (words .exit) ≡ put (now (words .entry)) to (take count (drop from (now (words .entry)))) ⌝ }
+{
+    let from_end = from + count;
+    let to_end = to + count;
+    copy_words(&words[from..from_end], &mut hand[0..count]);
+    copy_words(&hand[0..count], &mut words[to..to_end]);
+}
+
+// The words from `from` to before `end` moved up by so many places, the last ones first.
+fn move_up(words: &mut [u32], from: usize, end: usize, by: usize)
+    requires { ⌜ (from ≤ end) × (end + by ≤ length (now words)) ⌝ }
+    ensures { λ _. ⌜ now (words .exit) ≡ put (now (words .entry)) (from + by) (take (end - from) (drop from (now (words .entry)))) ⌝ }
+{
+    let mut hand = [0; HANDFUL];
+    let mut at = end;
+    while from < at {
+        let count = handful(at - from);
+        at -= count;
+        let to = at + by;
+        move_few(words, at, to, count, &mut hand);
+    }
+}
+
+// The same down, the first ones first.
+fn move_down(words: &mut [u32], from: usize, end: usize, by: usize)
+    requires { ⌜ (by ≤ from) × ((from ≤ end) × (end ≤ length (now words))) ⌝ }
+    ensures { λ _. ⌜ now (words .exit) ≡ put (now (words .entry)) (from - by) (take (end - from) (drop from (now (words .entry)))) ⌝ }
+{
+    let mut hand = [0; HANDFUL];
+    let mut at = from;
+    while at < end {
+        let count = handful(end - at);
+        let to = at - by;
+        move_few(words, at, to, count, &mut hand);
+        at += count;
+    }
+}
+
+// Of n parts of one width, those from part p on moved up by one place.
+pub fn shift_up(words: &mut [u32], width: usize, p: usize, n: usize)
+    requires { ⌜ (p ≤ n) × ((n + 1) * width ≤ length (now words)) ⌝ }
+    ensures { λ _. ⌜ now (words .exit) ≡ shiftUp width (now (words .entry)) p n ⌝ }
+{
+    let from = p * width;
+    let end = n * width;
+    move_up(words, from, end, width);
+}
+
+// Of n parts of one width, those behind part p moved down by one place.
+pub fn shift_down(words: &mut [u32], width: usize, p: usize, n: usize)
+    requires { ⌜ (p < n) × (n * width ≤ length (now words)) ⌝ }
+    ensures { λ _. ⌜ now (words .exit) ≡ shiftDown width (now (words .entry)) p n ⌝ }
+{
+    let from = (p + 1) * width;
+    let end = n * width;
+    move_down(words, from, end, width);
 }

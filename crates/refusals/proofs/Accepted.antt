@@ -1,9 +1,10 @@
--- The refusals: what holds of the lengths where none of 1 to 7 is refused, and what each test of a call says of its refusal.
+-- The refusals: what holds of the lengths where none of 1 to 7 is refused, what each test of a call says of its refusal, and what is known of an
+-- accepted call.
 use mathlib.Core.Path.{_≡_, refl, sym}
 use mathlib.Core.List.{List}
 use mathlib.Core.Bool.{Bool, true, false, cond, not, _||_, true≢false}
 use mathlib.Core.Logic.{_⊎_, inl, inr}
-use Prim.Native.Nat.{ℕ, zero, suc, _*_, _/_, _%_, _≤_, _<_}
+use Prim.Native.Nat.{ℕ, zero, suc, _+_, _*_, _≤_, _<_}
 use native.Mathlib.Omega.{arith}
 use borrow.Author.Tests.{eq-eqb, ne-eqb, eqb-true, eqb-false, ltb-true, ltb-false, lt-ltb, le-ltb}
 use lib.Dec.{eqb, ltb}
@@ -13,12 +14,12 @@ use Rattle.oscillator.specs.Bank.{bankLength}
 use Rattle.terrain.specs.Heights.{mapLength}
 use Rattle.voice.specs.Voice.{Lent, mapInstrument, keptCount}
 use Rattle.score.specs.declared.refusal.Refusal.{Refusal}
-use Rattle.score.specs.Rows.{rowWords, mostRows, putRow}
+use Rattle.score.specs.Rows.{rowWords}
 use Rattle.score.specs.Limits.{limitRefusal}
-use Rattle.score.specs.Numbers.{refusal, positionNumber}
+use Rattle.score.specs.Numbers.{refusal, positionNumber, fullNumber}
 use Rattle.rows.specs.Rows.{Setup, Take}
+use Rattle.refusals.specs.Calls.{Call, countAfter, rowsAfter, position, leastCount, largestCount}
 use Rattle.refusals.specs.Refusals.{
-  rowCount,
   mapLengthOf,
   wrongInstrument,
   wrongRate,
@@ -26,14 +27,15 @@ use Rattle.refusals.specs.Refusals.{
   wrongBank,
   wrongMap,
   wrongRows,
-  wrongTake,
+  shortTake,
+  wrongPosition,
+  noSpare,
+  full,
   settingsNumber,
   lengthsNumber,
   lentNumber,
   scoreRefusal,
   refusalOf,
-  renderRefusal,
-  editRefusal,
 }
 
 -- ---- No number: no test holds.
@@ -70,43 +72,49 @@ settings-right instrument rate frames bank map e =
       map-long = eqb-true map (mapLengthOf instrument) (not-not _ (f .0));
     }
 
-pub record LengthsRight (frames rows out aux kept : ℕ) : Type 0 where
-  pub rows-some : 0 < rows / rowWords
-  pub rows-most : rows / rowWords ≤ mostRows
-  pub rows-long : rows ≡ rows / rowWords * rowWords
-  pub out-long : out ≡ rows / rowWords * frames
-  pub aux-long : aux ≡ rows / rowWords * frames
-  pub kept-long : kept ≡ rows / rowWords * keptCount
+-- A take holds n rows.
+pub record TakeRight (n frames out aux kept : ℕ) : Type 0 where
+  pub out-room : n * frames ≤ out
+  pub aux-room : n * frames ≤ aux
+  pub kept-room : n * keptCount ≤ kept
 
-pub lengths-right : (frames rows out aux kept : ℕ) → lengthsNumber frames rows out aux kept ≡ 0 → LengthsRight frames rows out aux kept
+take-right : (n frames out aux kept : ℕ) → shortTake n frames out aux kept ≡ false → TakeRight n frames out aux kept
+take-right n frames out aux kept e =
+    let a = neither _ _ e in
+    let b = neither _ _ (a .1) in
+    record {
+      out-room = ltb-false out (n * frames) (a .0);
+      aux-room = ltb-false aux (n * frames) (b .0);
+      kept-room = ltb-false kept (n * keptCount) (b .1);
+    }
+
+pub record LengthsRight (least largest frames n rows out aux kept : ℕ) : Type 0 where
+  pub count-least : least ≤ n
+  pub count-most : n ≤ largest
+  pub rows-room : n * rowWords ≤ rows
+  pub take-room : TakeRight n frames out aux kept
+
+lengths-right : (least largest frames n rows out aux kept : ℕ) → lengthsNumber least largest frames n rows out aux kept ≡ 0
+    → LengthsRight least largest frames n rows out aux kept
 unfolding lengthsNumber
-lengths-right frames rows out aux kept e =
-    let n : ℕ = rows / rowWords in
-    let a = passed (wrongRows rows) 5 _ e in
+lengths-right least largest frames n rows out aux kept e =
+    let a = passed (wrongRows least largest n rows) 5 _ e in
     let c = neither _ _ (a .0) in
     let d = neither _ _ (c .1) in
-    let whole : rows % rowWords ≡ 0 = eqb-true (rows % rowWords) 0 (not-not _ (c .0)) in
-    let some : n ≡ 0 → ⊥ = eqb-false n 0 (d .0) in
-    let above : 0 < n = omega (arith, some) in
-    let long : rows ≡ n * rowWords = omega arith in
-    let b = passed (wrongTake n frames out aux kept) 6 _ (a .1) in
-    let f = neither _ _ (b .0) in
-    let g = neither _ _ (f .1) in
+    let b = passed (shortTake n frames out aux kept) 6 _ (a .1) in
     record {
-      rows-some = above;
-      rows-most = ltb-false mostRows n (d .1);
-      rows-long = long;
-      out-long = eqb-true out (n * frames) (not-not _ (f .0));
-      aux-long = eqb-true aux (n * frames) (not-not _ (g .0));
-      kept-long = eqb-true kept (n * keptCount) (not-not _ (g .1));
+      count-least = ltb-false n least (c .0);
+      count-most = ltb-false largest n (d .0);
+      rows-room = ltb-false rows (n * rowWords) (d .1);
+      take-room = take-right n frames out aux kept (b .0);
     }
 
 -- ---- What a run may count on.
 
-pub record Usable (s : Setup) (rows : List ℕ) (t : Take) : Type 0 where
+pub record Usable (s : Setup) (least largest n : ℕ) (rows : List ℕ) (t : Take) : Type 0 where
   pub tables : Lent (s .bank) (s .map)
-  pub settings : SettingsRight (s .instrument) (s .frames) (length (s .bank)) (length (s .map))
-  pub fit : LengthsRight (s .frames) (length rows) (length (t .out)) (length (t .aux)) (length (t .kept))
+  pub frames-most : s .frames ≤ mostFrames
+  pub fit : LengthsRight least largest (s .frames) n (length rows) (length (t .out)) (length (t .aux)) (length (t .kept))
 
 map-lengths : (i m : ℕ) → m ≡ mapLengthOf i → (m ≡ 0) ⊎ (m ≡ mapLength)
 map-lengths i m e = go (eqb i mapInstrument) e
@@ -115,61 +123,84 @@ map-lengths i m e = go (eqb i mapInstrument) e
     go true q = inr q
     go false q = inl q
 
-pub usable : (s : Setup) (rows : List ℕ) (t : Take) → lentNumber s rows t ≡ 0 → Usable s rows t
+pub usable : (s : Setup) (least largest n : ℕ) (rows : List ℕ) (t : Take) → lentNumber s least largest n rows t ≡ 0 → Usable s least largest n rows t
 unfolding lentNumber
-usable s rows t e = go (settingsNumber (s .instrument) (s .rate) (s .frames) (length (s .bank)) (length (s .map))) refl e
+usable s least largest n rows t e = go (settingsNumber (s .instrument) (s .rate) (s .frames) (length (s .bank)) (length (s .map))) refl e
   where
     go : (m : ℕ) → m ≡ settingsNumber (s .instrument) (s .rate) (s .frames) (length (s .bank)) (length (s .map))
-        → cond (eqb m 0) (lengthsNumber (s .frames) (length rows) (length (t .out)) (length (t .aux)) (length (t .kept))) m ≡ 0 → Usable s rows t
+        → cond (eqb m 0) (lengthsNumber least largest (s .frames) n (length rows) (length (t .out)) (length (t .aux)) (length (t .kept))) m ≡ 0
+        → Usable s least largest n rows t
     go zero q x =
         let a = settings-right (s .instrument) (s .rate) (s .frames) (length (s .bank)) (length (s .map)) (sym q) in
         record {
           tables = record { bank-long = a .bank-long; map-long = map-lengths (s .instrument) (length (s .map)) (a .map-long) };
-          settings = a;
-          fit = lengths-right (s .frames) (length rows) (length (t .out)) (length (t .aux)) (length (t .kept)) x;
+          frames-most = a .frames-most;
+          fit = lengths-right least largest (s .frames) n (length rows) (length (t .out)) (length (t .aux)) (length (t .kept)) x;
         }
     go (suc m) q x =
         let y : suc m ≡ 0 = rw (ne-eqb (suc m) 0 (λ (h : suc m ≡ 0). omega arith)) at x in
         absurd (omega arith)
 
--- ---- What each call refuses.
+-- ---- What each test says of a call's refusal.
 
--- What is accepted is refused by no test.
-pub refusal-none : (number : ℕ) (next : Refusal) → refusalOf number next .number ≡ 0 → (number ≡ 0) × (next .number ≡ 0)
-unfolding refusalOf
-refusal-none zero next e = (refl, e)
-refusal-none (suc m) next e =
-    let y : suc m ≡ 0 = rw (ne-eqb (suc m) 0 (λ (h : suc m ≡ 0). omega arith)) at e in
-    absurd (omega arith)
+module _ (s : Setup) (n : ℕ) (rows : List ℕ) (t : Take) (c : Call) (number : ℕ) (e : number ≡ lentNumber s (leastCount c) (largestCount c) n rows t) (r : Refusal) where
+  pub by-lengths : (number ≡ 0 → ⊥) → r ≡ refusal number 0 → r ≡ refusalOf s n rows t c
+  unfolding refusalOf
+  by-lengths h q = simp (sym e, ne-eqb number 0 h, q)
 
-pub score-none : (rows : List ℕ) (k : ℕ) (row : List ℕ) → scoreRefusal rows k row .number ≡ 0
-    → (k < rowCount rows) × (limitRefusal (rowCount rows) (putRow rows k row) .number ≡ 0)
-unfolding scoreRefusal
-score-none rows k row e = go (ltb k (rowCount rows)) (ltb-true k (rowCount rows)) e
+  module _ (z : number ≡ 0) where
+    pub by-position : wrongPosition n c ≡ true → r ≡ refusal positionNumber (position c) → r ≡ refusalOf s n rows t c
+    unfolding refusalOf scoreRefusal
+    by-position w q = simp (sym e, eq-eqb number 0 z, w, q)
+
+    pub by-full : wrongPosition n c ≡ false → full s n rows t c ≡ true → r ≡ refusal fullNumber 0 → r ≡ refusalOf s n rows t c
+    unfolding refusalOf scoreRefusal
+    by-full w f q = simp (sym e, eq-eqb number 0 z, w, f, q)
+
+    pub by-limits : wrongPosition n c ≡ false → full s n rows t c ≡ false → r ≡ limitRefusal (countAfter n c) (rowsAfter n rows c) → r ≡ refusalOf s n rows t c
+    unfolding refusalOf scoreRefusal
+    by-limits w f q = simp (sym e, eq-eqb number 0 z, w, f, q)
+
+pub below : (k n : ℕ) → k < n → not (ltb k n) ≡ false
+below k n h = rw (lt-ltb k n h)
+
+pub is-below : (k n : ℕ) → not (ltb k n) ≡ false → k < n
+is-below k n e = ltb-true k n (not-not (ltb k n) e)
+
+pub not-below : (k n : ℕ) → n ≤ k → not (ltb k n) ≡ true
+not-below k n h = rw (le-ltb k n h)
+
+-- ---- An accepted call.
+
+pub record Accepted (s : Setup) (n : ℕ) (rows : List ℕ) (t : Take) (c : Call) : Type 0 where
+  pub lent-right : Usable s (leastCount c) (largestCount c) n rows t
+  pub positioned : wrongPosition n c ≡ false
+  pub spare : full s n rows t c ≡ false
+  pub within : limitRefusal (countAfter n c) (rowsAfter n rows c) .number ≡ 0
+
+pub accepted : (s : Setup) (n : ℕ) (rows : List ℕ) (t : Take) (c : Call) → refusalOf s n rows t c .number ≡ 0 → Accepted s n rows t c
+unfolding refusalOf scoreRefusal
+accepted s n rows t c e = go (lentNumber s (leastCount c) (largestCount c) n rows t) (wrongPosition n c) (full s n rows t c) refl refl refl e
   where
-    go : (b : Bool) → (b ≡ true → k < rowCount rows) → cond b (limitRefusal (rowCount rows) (putRow rows k row)) (refusal positionNumber k) .number ≡ 0
-        → (k < rowCount rows) × (limitRefusal (rowCount rows) (putRow rows k row) .number ≡ 0)
-    go true f e = (f refl, e)
-    go false f e = absurd (omega arith)
+    go : (m : ℕ) (w f : Bool) → m ≡ lentNumber s (leastCount c) (largestCount c) n rows t → w ≡ wrongPosition n c → f ≡ full s n rows t c
+        → cond (eqb m 0)
+        (cond w (refusal positionNumber (position c)) (cond f (refusal fullNumber 0) (limitRefusal (countAfter n c) (rowsAfter n rows c)))) (refusal m 0)
+        .number ≡ 0
+        → Accepted s n rows t c
+    go zero false false a b d x =
+        record { lent-right = usable s (leastCount c) (largestCount c) n rows t (sym a); positioned = sym b; spare = sym d; within = x }
+    go zero false true a b d x = absurd (omega arith)
+    go zero true f a b d x = absurd (omega arith)
+    go (suc m) w f a b d x =
+        let y : suc m ≡ 0 = rw (ne-eqb (suc m) 0 (λ (h : suc m ≡ 0). omega arith)) at x in
+        absurd (omega arith)
 
-module _ (s : Setup) (rows : List ℕ) (t : Take) (number : ℕ) (e : number ≡ lentNumber s rows t) where
-  pub render-lent : (number ≡ 0 → ⊥) → refusal number 0 ≡ renderRefusal s rows t
-  unfolding renderRefusal refusalOf
-  render-lent h = simp (sym e, ne-eqb number 0 h)
+-- The spare place that an accepted insertion has.
+pub record SpareRight (n frames rows out aux kept : ℕ) : Type 0 where
+  pub rows-room : (n + 1) * rowWords ≤ rows
+  pub take-room : TakeRight (n + 1) frames out aux kept
 
-  pub render-limits : number ≡ 0 → (r : Refusal) → r ≡ limitRefusal (rowCount rows) rows → r ≡ renderRefusal s rows t
-  unfolding renderRefusal refusalOf
-  render-limits z r q = simp (sym e, eq-eqb number 0 z, q)
-
-  module _ (k : ℕ) (row : List ℕ) where
-    pub edit-lent : (number ≡ 0 → ⊥) → refusal number 0 ≡ editRefusal s rows k row t
-    unfolding editRefusal refusalOf
-    edit-lent h = simp (sym e, ne-eqb number 0 h)
-
-    pub edit-nowhere : number ≡ 0 → rowCount rows ≤ k → refusal positionNumber k ≡ editRefusal s rows k row t
-    unfolding editRefusal refusalOf scoreRefusal
-    edit-nowhere z h = simp (sym e, eq-eqb number 0 z, le-ltb k (rowCount rows) h)
-
-    pub edit-limits : number ≡ 0 → k < rowCount rows → (r : Refusal) → r ≡ limitRefusal (rowCount rows) (putRow rows k row) → r ≡ editRefusal s rows k row t
-    unfolding editRefusal refusalOf scoreRefusal
-    edit-limits z h r q = simp (sym e, eq-eqb number 0 z, lt-ltb k (rowCount rows) h, q)
+pub spare-right : (n frames rows out aux kept : ℕ) → noSpare n frames rows out aux kept ≡ false → SpareRight n frames rows out aux kept
+spare-right n frames rows out aux kept e =
+    let a = neither _ _ e in
+    record { rows-room = ltb-false rows ((n + 1) * rowWords) (a .0); take-room = take-right (n + 1) frames out aux kept (a .1) }

@@ -1,13 +1,17 @@
 // What the calls refuse, by number and place.
 ghost use mathlib.Core.Path.{_≡_};
-ghost use Prim.Native.Nat.{_≤_};
+ghost use Prim.Native.Nat.{_≤_, _<_};
 ghost use Rattle.utils.specs.Rendered.{mostFrames};
+ghost use Rattle.score.specs.Rows.{mostRows};
+ghost use Rattle.score.specs.Numbers.{refusal, positionNumber};
 ghost use Rattle.rows.specs.Rows.{setup, lent};
-ghost use Rattle.refusals.specs.Refusals.{mapLengthOf, settingsNumber, lengthsNumber, lentNumber, renderRefusal, editRefusal};
+ghost use Rattle.refusals.specs.Calls.{render, edit, insert, remove};
+ghost use Rattle.refusals.specs.Refusals.{mapLengthOf, settingsNumber, shortTake, lengthsNumber, lentNumber, noSpare, refusalOf};
 use oscillator::bank::BANK_LENGTH;
 use rows::Settings;
 use score::refusal::BANK;
 use score::refusal::BLOCK;
+use score::refusal::FULL;
 use score::refusal::INSTRUMENT;
 use score::refusal::MAP;
 use score::refusal::POSITION;
@@ -66,28 +70,45 @@ fn settings_number(instrument: u32, rate: u32, frames: usize, bank: usize, map: 
     0
 }
 
-// The same of 6 and 7, by the lengths of the row words and of the take.
-fn lengths_number(frames: usize, rows: usize, out: usize, aux: usize, kept: usize) -> u32
-    requires { ⌜ frames ≤ mostFrames ⌝ }
-    ensures { λ r. ⌜ r ≡ lengthsNumber frames rows out aux kept ⌝ }
+// Whether a take is too short for n rows.
+fn short_take(n: usize, frames: usize, out: usize, aux: usize, kept: usize) -> bool
+    requires { ⌜ (n ≤ mostRows) × (frames ≤ mostFrames) ⌝ }
+    ensures { λ r. ⌜ r ≡ shortTake n frames out aux kept ⌝ }
 {
-    if rows % ROW_WORDS != 0 {
+    if out < n * frames {
+        return true;
+    }
+    if aux < n * frames {
+        return true;
+    }
+    kept < n * KEPT_WORDS
+}
+
+// The same of 6 and 7, where a call takes counts from `least` to `largest`. The lent words by their lengths.
+fn lengths_number(
+    least: usize,
+    largest: usize,
+    frames: usize,
+    count: usize,
+    rows: usize,
+    out: usize,
+    aux: usize,
+    kept: usize,
+) -> u32
+    requires { ⌜ (largest ≤ mostRows) × (frames ≤ mostFrames) ⌝ }
+    ensures { λ r. ⌜ r ≡ lengthsNumber least largest frames count rows out aux kept ⌝ }
+{
+    if count < least {
         return ROWS;
     }
-    let n = rows / ROW_WORDS;
-    if n == 0 {
+    if count > largest {
         return ROWS;
     }
-    if n > MOST_ROWS {
+    if rows < count * ROW_WORDS {
         return ROWS;
     }
-    if out != n * frames {
-        return TAKE;
-    }
-    if aux != n * frames {
-        return TAKE;
-    }
-    if kept != n * KEPT_WORDS {
+    let short = short_take(count, frames, out, aux, kept);
+    if short {
         return TAKE;
     }
     0
@@ -98,14 +119,18 @@ fn lent_number(
     settings: Settings,
     bank: &[i16],
     map: &[u8],
+    least: usize,
+    largest: usize,
     rows: &[u32],
+    count: usize,
     out: &[u32],
     aux: &[u32],
     kept: &[u32],
 ) -> u32
+    requires { ⌜ largest ≤ mostRows ⌝ }
     ensures { λ r. ⌜
         r
-        ≡ lentNumber (setup settings (now (bank .entry)) (now (map .entry))) (now (rows .entry))
+        ≡ lentNumber (setup settings (now (bank .entry)) (now (map .entry))) least largest count (now (rows .entry))
         (lent (now (out .entry)) (now (aux .entry)) (now (kept .entry))) ⌝ }
 {
     let frames = settings.frames;
@@ -119,7 +144,45 @@ fn lent_number(
     if number != 0 {
         return number;
     }
-    lengths_number(frames, rows.len(), out.len(), aux.len(), kept.len())
+    lengths_number(
+        least,
+        largest,
+        frames,
+        count,
+        rows.len(),
+        out.len(),
+        aux.len(),
+        kept.len(),
+    )
+}
+
+// A refusal of one of the numbers that have place 0.
+fn nowhere(number: u32) -> Refusal
+    ensures { λ r. ⌜ r ≡ refusal number 0 ⌝ }
+{
+    Refusal { number, place: 0 }
+}
+
+// The refusal of a position.
+fn at_position(position: usize) -> Refusal
+    ensures { λ r. ⌜ r ≡ refusal positionNumber position ⌝ }
+{
+    Refusal {
+        number: POSITION,
+        place: position,
+    }
+}
+
+// Whether some buffer has no place for one row more. The lent words by their lengths.
+fn no_spare(count: usize, frames: usize, rows: usize, out: usize, aux: usize, kept: usize) -> bool
+    requires { ⌜ (count < mostRows) × (frames ≤ mostFrames) ⌝ }
+    ensures { λ r. ⌜ r ≡ noSpare count frames rows out aux kept ⌝ }
+{
+    let more = count + 1;
+    if rows < more * ROW_WORDS {
+        return true;
+    }
+    short_take(more, frames, out, aux, kept)
 }
 
 // What whole rendering refuses.
@@ -128,20 +191,32 @@ pub fn render_refusal(
     bank: &[i16],
     map: &[u8],
     rows: &[u32],
+    count: usize,
     out: &[u32],
     aux: &[u32],
     kept: &[u32],
 ) -> Refusal
     ensures { λ r. ⌜
         r
-        ≡ renderRefusal (setup settings (now (bank .entry)) (now (map .entry))) (now (rows .entry))
-        (lent (now (out .entry)) (now (aux .entry)) (now (kept .entry))) ⌝ }
+        ≡ refusalOf (setup settings (now (bank .entry)) (now (map .entry))) count (now (rows .entry))
+        (lent (now (out .entry)) (now (aux .entry)) (now (kept .entry))) render ⌝ }
 {
-    let number = lent_number(settings, bank, map, rows, out, aux, kept);
+    let number = lent_number(
+        settings,
+        bank,
+        map,
+        1,
+        MOST_ROWS,
+        rows,
+        count,
+        out,
+        aux,
+        kept,
+    );
     if number != 0 {
-        return Refusal { number, place: 0 };
+        return nowhere(number);
     }
-    score::limits::limit_refusal(rows, rows.len() / ROW_WORDS)
+    score::limits::limit_refusal(rows, count)
 }
 
 // What an edit of row k refuses.
@@ -150,6 +225,7 @@ pub fn edit_refusal(
     bank: &[i16],
     map: &[u8],
     rows: &[u32],
+    count: usize,
     k: usize,
     row: [u32; ROW_WORDS],
     out: &[u32],
@@ -158,19 +234,104 @@ pub fn edit_refusal(
 ) -> Refusal
     ensures { λ r. ⌜
         r
-        ≡ editRefusal (setup settings (now (bank .entry)) (now (map .entry))) (now (rows .entry)) k row
-        (lent (now (out .entry)) (now (aux .entry)) (now (kept .entry))) ⌝ }
+        ≡ refusalOf (setup settings (now (bank .entry)) (now (map .entry))) count (now (rows .entry))
+        (lent (now (out .entry)) (now (aux .entry)) (now (kept .entry))) (edit k row) ⌝ }
 {
-    let number = lent_number(settings, bank, map, rows, out, aux, kept);
+    let number = lent_number(
+        settings,
+        bank,
+        map,
+        1,
+        MOST_ROWS,
+        rows,
+        count,
+        out,
+        aux,
+        kept,
+    );
     if number != 0 {
-        return Refusal { number, place: 0 };
+        return nowhere(number);
     }
-    let n = rows.len() / ROW_WORDS;
-    if k >= n {
-        return Refusal {
-            number: POSITION,
-            place: k,
-        };
+    if k >= count {
+        return at_position(k);
     }
-    score::limits::limit_refusal_with(rows, n, k, row)
+    score::limits::limit_refusal_with(rows, count, k, row)
+}
+
+// What an insertion as row p refuses.
+pub fn insert_refusal(
+    settings: Settings,
+    bank: &[i16],
+    map: &[u8],
+    rows: &[u32],
+    count: usize,
+    p: usize,
+    row: [u32; ROW_WORDS],
+    out: &[u32],
+    aux: &[u32],
+    kept: &[u32],
+) -> Refusal
+    ensures { λ r. ⌜
+        r
+        ≡ refusalOf (setup settings (now (bank .entry)) (now (map .entry))) count (now (rows .entry))
+        (lent (now (out .entry)) (now (aux .entry)) (now (kept .entry))) (insert p row) ⌝ }
+{
+    let largest = MOST_ROWS - 1;
+    let number = lent_number(settings, bank, map, 1, largest, rows, count, out, aux, kept);
+    if number != 0 {
+        return nowhere(number);
+    }
+    if p > count {
+        return at_position(p);
+    }
+    let full = no_spare(
+        count,
+        settings.frames,
+        rows.len(),
+        out.len(),
+        aux.len(),
+        kept.len(),
+    );
+    if full {
+        return nowhere(FULL);
+    }
+    score::limits::limit_refusal_inserted(rows, count, p, row)
+}
+
+// What a removal of row p refuses.
+pub fn remove_refusal(
+    settings: Settings,
+    bank: &[i16],
+    map: &[u8],
+    rows: &[u32],
+    count: usize,
+    p: usize,
+    out: &[u32],
+    aux: &[u32],
+    kept: &[u32],
+) -> Refusal
+    ensures { λ r. ⌜
+        r
+        ≡ refusalOf (setup settings (now (bank .entry)) (now (map .entry))) count (now (rows .entry))
+        (lent (now (out .entry)) (now (aux .entry)) (now (kept .entry))) (remove p) ⌝ }
+{
+    let number = lent_number(
+        settings,
+        bank,
+        map,
+        2,
+        MOST_ROWS,
+        rows,
+        count,
+        out,
+        aux,
+        kept,
+    );
+    if number != 0 {
+        return nowhere(number);
+    }
+    if p >= count {
+        return at_position(p);
+    }
+    score::limits::limit_refusal_removed(rows, count, p)
 }

@@ -1,5 +1,5 @@
 -- What the C functions return and leave: the number, what is written to `first` and `second`, and the lent words, by the definitions of
--- reading, rendering and edits.
+-- reading and of the calls over a score and a take.
 use Prim.Native.Nat.{ℕ}
 use mathlib.Core.List.{List, [], _∷_}
 use Rattle.score.specs.Numbers.{Result}
@@ -45,7 +45,7 @@ read result rows = record { result = result; rows = rows }
 abbrev pub ofReading : reading.Outcome → Read
 ofReading o = read (givenOf (reading.resultOf (o .answer))) (o .rows)
 
--- After rendering or an edit: the result, the lent row words, and the lent take.
+-- After rendering, an edit, an insertion or a removal: the result, the lent row words, and the lent take.
 pub record Called : Type 0 where
   pub result : Given
   pub rows : List ℕ

@@ -1,12 +1,14 @@
 // The C functions of the static library, declared in include/retake.h. Each returns 0 or the number of its refusal and writes its values to
-// `first` and `second`: the row count and 0 (reader), the rows rendered and `held` (rendering, edit), the place and 0 (a refusal).
+// `first` and `second`: the row count and 0 (reader), the rows rendered and `held` (rendering, edit, insertion, removal), the place and 0 (a
+// refusal). The score and its take stand at the start of the lent words; `count` says how many rows it has.
 ghost use mathlib.Core.Path.{_≡_};
 ghost use mathlib.Core.List.{_∷_, []};
 ghost use Rattle.score.specs.Numbers.{refused};
 ghost use Rattle.reader.specs.Reading.{readOf};
 ghost use Rattle.reader.specs.Reading as reading;
 ghost use Rattle.rows.specs.Rows.{setup, lent};
-ghost use Rattle.take.specs.Take.{resultOf, renderOf, editOf};
+ghost use Rattle.refusals.specs.Calls.{render, edit, insert, remove};
+ghost use Rattle.take.specs.Take.{resultOf, callOf};
 ghost use Rattle.retake_c.specs.Calls.{given, givenOf, settings, read, ofReading, called, ofCall};
 use reader::ReadAnswer;
 use rows::Settings;
@@ -57,6 +59,16 @@ fn values_of(answer: Answer) -> Values
     }
 }
 
+fn settings_of(instrument: u32, rate: u32, frames: u32) -> Settings
+    ensures { λ r. ⌜ r ≡ settings instrument rate frames ⌝ }
+{
+    Settings {
+        instrument,
+        rate,
+        frames: frames as usize,
+    }
+}
+
 // Reads a score's text into row words.
 #[no_mangle]
 pub extern "C" fn retake_read_score(
@@ -85,6 +97,7 @@ pub extern "C" fn retake_render(
     bank: &[i16],
     map: &[u8],
     rows: &[u32],
+    count: u64,
     out: &mut [u32],
     aux: &mut [u32],
     kept: &mut [u32],
@@ -94,15 +107,11 @@ pub extern "C" fn retake_render(
     ensures { λ r. ⌜
         called (given r (now (first .exit)) (now (second .exit))) (now (rows .entry))
         (lent (now (out .exit)) (now (aux .exit)) (now (kept .exit)))
-        ≡ ofCall (renderOf (setup (settings instrument rate frames) (now (bank .entry)) (now (map .entry))) (now (rows .entry))
-        (lent (now (out .entry)) (now (aux .entry)) (now (kept .entry)))) ⌝ }
+        ≡ ofCall (callOf (setup (settings instrument rate frames) (now (bank .entry)) (now (map .entry))) count (now (rows .entry))
+        (lent (now (out .entry)) (now (aux .entry)) (now (kept .entry))) (render)) ⌝ }
 {
-    let settings = Settings {
-        instrument,
-        rate,
-        frames: frames as usize,
-    };
-    let answer = take::render(settings, bank, map, rows, out, aux, kept);
+    let settings = settings_of(instrument, rate, frames);
+    let answer = take::render(settings, bank, map, rows, count as usize, out, aux, kept);
     let v = values_of(answer);
     *first = v.first;
     *second = v.second;
@@ -118,6 +127,7 @@ pub extern "C" fn retake_edit(
     bank: &[i16],
     map: &[u8],
     rows: &mut [u32],
+    count: u64,
     position: u64,
     note: u32,
     timbre: u32,
@@ -133,22 +143,108 @@ pub extern "C" fn retake_edit(
     ensures { λ r. ⌜
         called (given r (now (first .exit)) (now (second .exit))) (now (rows .exit))
         (lent (now (out .exit)) (now (aux .exit)) (now (kept .exit)))
-        ≡ ofCall (editOf (setup (settings instrument rate frames) (now (bank .entry)) (now (map .entry))) (now (rows .entry)) position
-        (note ∷ timbre ∷ morph ∷ harmonics ∷ restart ∷ []) (lent (now (out .entry)) (now (aux .entry)) (now (kept .entry)))) ⌝ }
+        ≡ ofCall (callOf (setup (settings instrument rate frames) (now (bank .entry)) (now (map .entry))) count (now (rows .entry))
+        (lent (now (out .entry)) (now (aux .entry)) (now (kept .entry))) (edit position (note ∷ timbre ∷ morph ∷ harmonics ∷ restart ∷ []))) ⌝ }
 {
-    let row = [note, timbre, morph, harmonics, restart];
-    let settings = Settings {
-        instrument,
-        rate,
-        frames: frames as usize,
-    };
+    let edited = [note, timbre, morph, harmonics, restart];
+    let settings = settings_of(instrument, rate, frames);
     let answer = take::edit(
         settings,
         bank,
         map,
         rows,
+        count as usize,
         position as usize,
-        row,
+        edited,
+        out,
+        aux,
+        kept,
+    );
+    let v = values_of(answer);
+    *first = v.first;
+    *second = v.second;
+    v.number
+}
+
+// Puts a row of five words in between the others, moves the later ones up, and renders what depends on it.
+#[no_mangle]
+pub extern "C" fn retake_insert(
+    instrument: u32,
+    rate: u32,
+    frames: u32,
+    bank: &[i16],
+    map: &[u8],
+    rows: &mut [u32],
+    count: u64,
+    position: u64,
+    note: u32,
+    timbre: u32,
+    morph: u32,
+    harmonics: u32,
+    restart: u32,
+    out: &mut [u32],
+    aux: &mut [u32],
+    kept: &mut [u32],
+    first: &mut u64,
+    second: &mut u64,
+) -> u32
+    ensures { λ r. ⌜
+        called (given r (now (first .exit)) (now (second .exit))) (now (rows .exit))
+        (lent (now (out .exit)) (now (aux .exit)) (now (kept .exit)))
+        ≡ ofCall (callOf (setup (settings instrument rate frames) (now (bank .entry)) (now (map .entry))) count (now (rows .entry))
+        (lent (now (out .entry)) (now (aux .entry)) (now (kept .entry))) (insert position (note ∷ timbre ∷ morph ∷ harmonics ∷ restart ∷ []))) ⌝ }
+{
+    let inserted = [note, timbre, morph, harmonics, restart];
+    let settings = settings_of(instrument, rate, frames);
+    let answer = take::insert(
+        settings,
+        bank,
+        map,
+        rows,
+        count as usize,
+        position as usize,
+        inserted,
+        out,
+        aux,
+        kept,
+    );
+    let v = values_of(answer);
+    *first = v.first;
+    *second = v.second;
+    v.number
+}
+
+// Takes a row out, moves the later ones down, and renders what depends on that.
+#[no_mangle]
+pub extern "C" fn retake_remove(
+    instrument: u32,
+    rate: u32,
+    frames: u32,
+    bank: &[i16],
+    map: &[u8],
+    rows: &mut [u32],
+    count: u64,
+    position: u64,
+    out: &mut [u32],
+    aux: &mut [u32],
+    kept: &mut [u32],
+    first: &mut u64,
+    second: &mut u64,
+) -> u32
+    ensures { λ r. ⌜
+        called (given r (now (first .exit)) (now (second .exit))) (now (rows .exit))
+        (lent (now (out .exit)) (now (aux .exit)) (now (kept .exit)))
+        ≡ ofCall (callOf (setup (settings instrument rate frames) (now (bank .entry)) (now (map .entry))) count (now (rows .entry))
+        (lent (now (out .entry)) (now (aux .entry)) (now (kept .entry))) (remove position)) ⌝ }
+{
+    let settings = settings_of(instrument, rate, frames);
+    let answer = take::remove(
+        settings,
+        bank,
+        map,
+        rows,
+        count as usize,
+        position as usize,
         out,
         aux,
         kept,

@@ -9,8 +9,9 @@ use Rattle.formats.proofs.Writing.{written-more}
 use Rattle.take.specs.declared.Answer.{Answer}
 use Rattle.voice.specs.Voice.{keptCount}
 use Rattle.rows.specs.Rows.{Setup, Take, lent}
-use Rattle.take.specs.Take.{outcome, renderOf}
-use Rattle.retakes.specs.Retakes.{Edit}
+use Rattle.refusals.specs.Calls.{Call, render, countAfter}
+use Rattle.take.specs.Take.{outcome, callOf}
+use Rattle.retakes.specs.Retakes.{Reel, reel}
 use Rattle.score.specs.declared.refusal.Refusal.{Refusal}
 use Rattle.inputs.specs.declared.Inputs.{Inputs}
 use Rattle.inputs.specs.Inputs.{zeros, TextsRead}
@@ -21,17 +22,16 @@ use Rattle.outputs.specs.Files.{filesOf, Handed, nothing}
 use Rattle.retake_lib.specs.declared.Lengths.{Lengths}
 use Rattle.retake_lib.specs.Program.{frames, blank, turned, played, outputOf, program}
 use Rattle.retake_lib.specs.Lent.{Bytes, bytesLent, EditsDone, Ran}
+use Rattle.retake_lib.proofs.Editing.{next-left}
 
-pub played-is : (s : Setup) (rows : List ℕ) (t : Take) (es : List Edit) {t' t'' : Take} {a : Answer} {p p' p'' first first' second second' : List ℕ} {e e' : ℕ} {w : Files}
-    → outcome a rows t' ≡ renderOf s rows t → Written heading p 0 p' e → EditsDone s es rows t' t'' p' e p'' e'
-    → Handed first first' second second' (filesOf (t'' .out) (t'' .aux)) w
-    → Ran (played s rows t es) (bytesLent p first second) (bytesLent p'' first' second') (record { printed = e'; files = w })
-unfolding played
-played-is s rows t es {t'} {t''} {a} {p} {p'} {p''} {first} {first'} {second} {second'} {e} {e'} {w} r h d f =
-    record {
-      printed-in = rw (sym r) (written-more zero-le h (d .lines a));
-      files-in = rw (sym r) (rw (d .left a) at f);
-    }
+pub played-is : (s : Setup) (n : ℕ) (rows : List ℕ) (t : Take) (es : List Call) {t' : Take} {o : Reel} {a : Answer} {p p' p'' first first' second second' : List ℕ} {e e' : ℕ} {w : Files}
+    → outcome a rows t' ≡ callOf s n rows t render → Written heading p 0 p' e → EditsDone s es (reel n rows t') o p' e p'' e'
+    → Handed first first' second second' (filesOf (o .left .out) (o .left .aux)) w
+    → Ran (played s n rows t es) (bytesLent p first second) (bytesLent p'' first' second') (record { printed = e'; files = w })
+unfolding played countAfter
+played-is s n rows t es r h d f =
+    let q = next-left s n rows t render refl r in
+    record { printed-in = rw (sym q) (written-more zero-le h (d .lines)); files-in = rw (sym q) (rw (d .left) at f) }
 
 -- ---- the program by what was read
 
@@ -59,7 +59,7 @@ pub part-long : {l : List ℕ} (n k : ℕ) → l ≡ zeros n → k ≤ n → k �
 unfolding zeros
 part-long {l} n k e h = rw (part-of-zeros n k e h) (sym (length-replicate k 0))
 
-pub played-blank : (s : Setup) (n : ℕ) (rows : List ℕ) (es : List Edit) {out aux kept : List ℕ} {b b' : Bytes} {l : Lengths}
+pub played-blank : (s : Setup) (n : ℕ) (rows : List ℕ) (es : List Call) {out aux kept : List ℕ} {b b' : Bytes} {l : Lengths}
     → out ≡ zeros (n * frames) → aux ≡ zeros (n * frames) → kept ≡ zeros (n * keptCount)
-    → Ran (played s rows (lent out aux kept) es) b b' l → Ran (played s rows (blank n) es) b b' l
+    → Ran (played s n rows (lent out aux kept) es) b b' l → Ran (played s n rows (blank n) es) b b' l
 played-blank s n rows es o a k h = rw (o, a, k) at h

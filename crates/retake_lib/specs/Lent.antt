@@ -5,10 +5,9 @@ use mathlib.Core.List.{List}
 use lib.ListN.{length}
 use Rattle.formats.specs.Formats.{Written}
 use Rattle.reader.specs.Reading.{editWords}
-use Rattle.take.specs.declared.Answer.{Answer}
-use Rattle.rows.specs.Rows.{Setup, Take}
-use Rattle.take.specs.Take.{outcome}
-use Rattle.retakes.specs.Retakes.{Edit, edited, after}
+use Rattle.rows.specs.Rows.{Setup}
+use Rattle.refusals.specs.Calls.{Call, position}
+use Rattle.retakes.specs.Retakes.{Reel, called, next, after}
 use Rattle.inputs.specs.Inputs.{mostRows, mostEdits}
 use Rattle.outputs.specs.Lines.{editLine, mostLine}
 use Rattle.outputs.specs.Files.{fileRoom, Handed}
@@ -46,15 +45,14 @@ pub record RunRoom (printed first second : List ℕ) : Type 0 where
   pub second-long : length second ≡ fileRoom (mostRows * frames)
 
 -- An edit was made on a score and a take, and its line was written.
-pub record EditDone (s : Setup) (e : Edit) (rows : List ℕ) (t : Take) (rows' : List ℕ) (t' : Take) (printed : List ℕ) (at : ℕ) (printed' : List ℕ) (end : ℕ) : Type 0 where
-  pub score : rows' ≡ edited s rows t e .score
-  pub left : t' ≡ edited s rows t e .left
-  pub line : Written (editLine (e .row) (edited s rows t e .answer)) printed at printed' end
+pub record EditDone (s : Setup) (e : Call) (o o' : Reel) (printed : List ℕ) (at : ℕ) (printed' : List ℕ) (end : ℕ) : Type 0 where
+  pub left : o' ≡ next s o e
+  pub line : Written (editLine (position e) (called s o e .answer)) printed at printed' end
 
--- So was a list of edits, whatever the call before it answered.
-pub record EditsDone (s : Setup) (es : List Edit) (rows : List ℕ) (t t' : Take) (printed : List ℕ) (at : ℕ) (printed' : List ℕ) (end : ℕ) : Type 0 where
-  pub left : (a : Answer) → t' ≡ after s (outcome a rows t) es .left
-  pub lines : (a : Answer) → Written (editLines s (outcome a rows t) es) printed at printed' end
+-- So was a list of edits.
+pub record EditsDone (s : Setup) (es : List Call) (o o' : Reel) (printed : List ℕ) (at : ℕ) (printed' : List ℕ) (end : ℕ) : Type 0 where
+  pub left : o' ≡ after s o es
+  pub lines : Written (editLines s o es) printed at printed' end
 
 -- A run left an output in lent bytes: its lines from the first byte on, and its files.
 pub record Ran (o : Output) (b b' : Bytes) (l : Lengths) : Type 0 where

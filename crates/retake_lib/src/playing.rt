@@ -7,6 +7,7 @@ ghost use Rattle.reader.specs.Reading.{editWords};
 ghost use Rattle.oscillator.specs.Bank.{bankLength};
 ghost use Rattle.voice.specs.Voice.{keptCount};
 ghost use Rattle.rows.specs.Rows.{lent};
+ghost use Rattle.retakes.specs.Retakes.{reel};
 ghost use Rattle.inputs.specs.Inputs.{zeros, mostRows, bankBytes, Given};
 ghost use Rattle.outputs.specs.Lines.{mostLine};
 ghost use Rattle.retake_lib.specs.Program.{setupWith, setupOf, editAt, editsFrom, frames, blank, played};
@@ -41,6 +42,7 @@ fn edit(
     edits: &[u32],
     k: usize,
     rows: &mut [u32],
+    n: usize,
     out: &mut [u32],
     aux: &mut [u32],
     kept: &mut [u32],
@@ -50,8 +52,8 @@ fn edit(
     requires { ⌜ k * editWords + editWords ≤ length (now edits) ⌝ }
     requires { ⌜ at + mostLine ≤ length (now printed) ⌝ }
     ensures { λ r. ⌜ EditDone (setupWith (now (bank .entry))) (editAt (now (edits .entry)) k)
-        (now (rows .entry)) (lent (now (out .entry)) (now (aux .entry)) (now (kept .entry)))
-        (now (rows .exit)) (lent (now (out .exit)) (now (aux .exit)) (now (kept .exit)))
+        (reel n (now (rows .entry)) (lent (now (out .entry)) (now (aux .entry)) (now (kept .entry))))
+        (reel n (now (rows .exit)) (lent (now (out .exit)) (now (aux .exit)) (now (kept .exit))))
         (now (printed .entry)) at (now (printed .exit)) r ⌝ }
 {
     let a = k * EDIT_WORDS;
@@ -68,6 +70,7 @@ fn edit(
         bank,
         b"",
         rows,
+        n,
         position as usize,
         row,
         out,
@@ -83,6 +86,7 @@ fn edit_all(
     edits: &[u32],
     count: usize,
     rows: &mut [u32],
+    n: usize,
     out: &mut [u32],
     aux: &mut [u32],
     kept: &mut [u32],
@@ -92,14 +96,14 @@ fn edit_all(
     requires { ⌜ count * editWords ≤ length (now edits) ⌝ }
     requires { ⌜ at + count * mostLine ≤ length (now printed) ⌝ }
     ensures { λ r. ⌜ EditsDone (setupWith (now (bank .entry))) (editsFrom count (now (edits .entry)))
-        (now (rows .entry)) (lent (now (out .entry)) (now (aux .entry)) (now (kept .entry)))
-        (lent (now (out .exit)) (now (aux .exit)) (now (kept .exit)))
+        (reel n (now (rows .entry)) (lent (now (out .entry)) (now (aux .entry)) (now (kept .entry))))
+        (reel n (now (rows .exit)) (lent (now (out .exit)) (now (aux .exit)) (now (kept .exit))))
         (now (printed .entry)) at (now (printed .exit)) r ⌝ }
 {
     let mut end = at;
     let mut k = 0;
     while k < count {
-        end = edit(bank, edits, k, rows, out, aux, kept, printed, end);
+        end = edit(bank, edits, k, rows, n, out, aux, kept, printed, end);
         k += 1;
     }
     end
@@ -111,6 +115,7 @@ fn play_words(
     edits: &[u32],
     count: usize,
     rows: &mut [u32],
+    n: usize,
     out: &mut [u32],
     aux: &mut [u32],
     kept: &mut [u32],
@@ -119,14 +124,14 @@ fn play_words(
     second: &mut [u8],
 ) -> Lengths
     requires { ⌜ Room (length (now out)) (length (now aux)) count (now edits) (now printed) (now first) (now second) ⌝ }
-    ensures { λ r. ⌜ Ran (played (setupWith (now (bank .entry))) (now (rows .entry))
+    ensures { λ r. ⌜ Ran (played (setupWith (now (bank .entry))) n (now (rows .entry))
         (lent (now (out .entry)) (now (aux .entry)) (now (kept .entry))) (editsFrom count (now (edits .entry))))
         (bytesLent (now (printed .entry)) (now (first .entry)) (now (second .entry)))
         (bytesLent (now (printed .exit)) (now (first .exit)) (now (second .exit))) r ⌝ }
 {
-    take::render(SETTINGS, bank, b"", rows, out, aux, kept);
+    take::render(SETTINGS, bank, b"", rows, n, out, aux, kept);
     let at = put_heading(printed);
-    let end = edit_all(bank, edits, count, rows, out, aux, kept, printed, at);
+    let end = edit_all(bank, edits, count, rows, n, out, aux, kept, printed, at);
     let files = put_files(out, aux, first, second);
     Lengths {
         printed: end,
@@ -159,7 +164,7 @@ fn play_rows(
 ) -> Lengths
     requires { ⌜ Given n count (now rows) (now edits) ⌝ }
     requires { ⌜ RunRoom (now printed) (now first) (now second) ⌝ }
-    ensures { λ r. ⌜ Ran (played (setupWith (now (bank .entry))) (take (n * rowWords) (now (rows .entry))) (blank n) (editsFrom count (now (edits .entry))))
+    ensures { λ r. ⌜ Ran (played (setupWith (now (bank .entry))) n (take (n * rowWords) (now (rows .entry))) (blank n) (editsFrom count (now (edits .entry))))
         (bytesLent (now (printed .entry)) (now (first .entry)) (now (second .entry)))
         (bytesLent (now (printed .exit)) (now (first .exit)) (now (second .exit))) r ⌝ }
 {
@@ -174,6 +179,7 @@ fn play_rows(
         edits,
         count,
         &mut rows[..used],
+        n,
         &mut out[..samples],
         &mut aux[..samples],
         &mut kept[..words],
@@ -203,7 +209,7 @@ pub fn play(
     requires { ⌜ length (now bank) ≡ bankBytes ⌝ }
     requires { ⌜ Given n count (now rows) (now edits) ⌝ }
     requires { ⌜ RunRoom (now printed) (now first) (now second) ⌝ }
-    ensures { λ r. ⌜ Ran (played (setupOf (now (bank .entry))) (take (n * rowWords) (now (rows .entry))) (blank n) (editsFrom count (now (edits .entry))))
+    ensures { λ r. ⌜ Ran (played (setupOf (now (bank .entry))) n (take (n * rowWords) (now (rows .entry))) (blank n) (editsFrom count (now (edits .entry))))
         (bytesLent (now (printed .entry)) (now (first .entry)) (now (second .entry)))
         (bytesLent (now (printed .exit)) (now (first .exit)) (now (second .exit))) r ⌝ }
 {

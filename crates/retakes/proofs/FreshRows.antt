@@ -5,14 +5,16 @@ use Prim.Native.Nat.{ℕ, zero, suc, _+_, _*_, _≤_, _<_}
 use native.Mathlib.Nat.{add-zero, zero-add, suc-mul, zero-mul}
 use native.Mathlib.Omega.{arith}
 use lib.ListN.{length, getD, take, drop, length-drop, take-append-drop}
-use lib.Seq.{drop-cons, drop-drop}
-use Rattle.lists.specs.Lists.{part}
+use lib.Seq.{length-take-le, drop-cons, drop-drop}
+use Rattle.lists.specs.Lists.{part, put}
+use Rattle.lists.proofs.Shifts.{laid-is, part-of-cut}
 use Rattle.voice.specs.declared.State.{State}
 use Rattle.voice.specs.Voice.{keptCount, voiceOf, stateOf}
 use Rattle.voice.proofs.Laws.{fresh-back}
-use Rattle.score.specs.Rows.{rowAt}
+use Rattle.score.specs.Rows.{rowWords, rowAt}
 use Rattle.rows.specs.Rows.{Setup, Take, lent, freshStart, keptAt, beforeRow, wordsBefore, Row, rowFrom, rowBy, rowIn}
-use Rattle.retakes.specs.Retakes.{freshFrom, fresh, joined, takeOf, noRow, beforeIn, wordsAt, madeFrom}
+use Rattle.retakes.specs.Retakes.{freshFrom, fresh, joined, takeOf, noRow, beforeIn, wordsAt, Past, madeFrom, laidOver, cut}
+use Rattle.retakes.proofs.Takes.{Roomy}
 use Rattle.retakes.proofs.Runs.{Made}
 
 module _ (s : Setup) (rows : List ℕ) where
@@ -94,24 +96,43 @@ parts-joined w of (r ∷ rs) l e p =
     ap (λ (y : List ℕ). take w y) (drop-drop (i * w) w l ∙ ap (λ (y : ℕ). drop y l) q) ∙ p (suc i) (omega arith)) in
     sym (take-append-drop w l) ∙ ap (λ (y : List ℕ). y ++ drop w l) z ∙ ap (λ (y : List ℕ). of (r .words) ++ y) t
 
--- A take of n rows.
-pub record Sized (frames n : ℕ) (t : Take) : Type 0 where
-  pub out-long : length (t .out) ≡ n * frames
-  pub aux-long : length (t .aux) ≡ n * frames
-  pub kept-long : length (t .kept) ≡ n * keptCount
+-- Where every row below the count stands as made, the take begins with the fresh rendering's.
+module _ (s : Setup) (rows : List ℕ) (n : ℕ) (t : Take) (z : Roomy s n rows t) (m : (i : ℕ) → i < n → Made s rows t i) where
+  abbrev F : List Row
+  F = fresh s n rows
 
--- Where every row stands as made, the take is the fresh rendering's.
-pub all-fresh : (s : Setup) (rows : List ℕ) (n : ℕ) (t : Take) → Sized (s .frames) n t → ((i : ℕ) → i < n → Made s rows t i) → t ≡ takeOf (fresh s n rows)
-all-fresh s rows n t z m =
-    let F = fresh s n rows in
-    let long : length F ≡ n = fresh-long s rows n 0 _ in
-    let row : (i : ℕ) → i < length F → wordsAt (s .frames) t i ≡ getD F i noRow .words = λ i h. made-fresh s rows n t m i (omega arith) in
-    let out : t .out ≡ takeOf F .out =
-    parts-joined (s .frames) (λ (w : Take). w .out) F (t .out) (rw long (z .out-long)) (λ i h. ap (λ (w : Take). w .out) (row i h)) in
-    let aux : t .aux ≡ takeOf F .aux =
-    parts-joined (s .frames) (λ (w : Take). w .aux) F (t .aux) (rw long (z .aux-long)) (λ i h. ap (λ (w : Take). w .aux) (row i h)) in
-    let kept : t .kept ≡ takeOf F .kept =
-    parts-joined keptCount (λ (w : Take). w .kept) F (t .kept) (rw long (z .kept-long)) (λ i h. ap (λ (w : Take). w .kept) (row i h)) in
-    ap (λ (x : List ℕ). lent x (t .aux) (t .kept)) out
-    ∙ ap (λ (x : List ℕ). lent (takeOf F .out) x (t .kept)) aux
-    ∙ ap (λ (x : List ℕ). lent (takeOf F .out) (takeOf F .aux) x) kept
+  -- Of out, of aux or of kept.
+  begins : (w : ℕ) (of : Take → List ℕ) (l : List ℕ) → n * w ≤ length l → ((i : ℕ) → i < n → part w l i ≡ of (wordsAt (s .frames) t i)) → take (n * w) l ≡ joined of F
+  begins w of l r p =
+      let long : length F ≡ n = fresh-long s rows n 0 _ in
+      parts-joined w of F (take (n * w) l) (rw long (length-take-le (n * w) l r))
+      (λ i h.
+      let k : i < n = omega arith in
+      part-of-cut w n i l k ∙ p i k ∙ ap of (made-fresh s rows n t m i k))
+
+  pub cut-fresh : cut s n t ≡ takeOf F
+  cut-fresh =
+      ap (λ (x : List ℕ). lent x (take (n * s .frames) (t .aux)) (take (n * keptCount) (t .kept))) (begins (s .frames) (λ (w : Take). w .out) (t .out) (z .out-room) (λ i h. refl))
+      ∙ ap (λ (x : List ℕ). lent (takeOf F .out) x (take (n * keptCount) (t .kept))) (begins (s .frames) (λ (w : Take). w .aux) (t .aux) (z .aux-room) (λ i h. refl))
+      ∙ ap (λ (x : List ℕ). lent (takeOf F .out) (takeOf F .aux) x) (begins keptCount (λ (w : Take). w .kept) (t .kept) (z .kept-room) (λ i h. refl))
+
+  -- So what was past the count before, and still is, has it laid over it.
+  pub laid-fresh : (old : Take) → Past (s .frames) n old t → t ≡ laidOver old (takeOf F)
+  laid-fresh old p =
+      let c = cut-fresh in
+      ap (λ (x : List ℕ). lent x (t .aux) (t .kept)) (laid-is (n * s .frames) (old .out) (t .out) (takeOf F .out) (z .out-room) (ap (λ (u : Take). u .out) c) (p .out))
+      ∙ ap (λ (x : List ℕ). lent (put (old .out) 0 (takeOf F .out)) x (t .kept))
+      (laid-is (n * s .frames) (old .aux) (t .aux) (takeOf F .aux) (z .aux-room) (ap (λ (u : Take). u .aux) c) (p .aux))
+      ∙ ap (λ (x : List ℕ). lent (put (old .out) 0 (takeOf F .out)) (put (old .aux) 0 (takeOf F .aux)) x)
+      (laid-is (n * keptCount) (old .kept) (t .kept) (takeOf F .kept) (z .kept-room) (ap (λ (u : Take). u .kept) c) (p .kept))
+
+-- ---- A fresh rendering reads the rows below the count alone.
+
+same-rows : (s : Setup) (rows rows' : List ℕ) (l i : ℕ) (st : State) → ((j : ℕ) → j < i + l → rowAt rows' j ≡ rowAt rows j) → freshFrom s rows' l i st ≡ freshFrom s rows l i st
+unfolding freshFrom
+same-rows s rows rows' zero i st h = refl
+same-rows s rows rows' (suc l) i st h =
+    rw (h i (omega arith)) (ap (λ (rs : List Row). rowFrom s (rowAt rows i) st ∷ rs) (same-rows s rows rows' l (i + 1) _ (λ j k. h j (omega arith))))
+
+pub fresh-cut : (s : Setup) (n : ℕ) (rows : List ℕ) → fresh s n (take (n * rowWords) rows) ≡ fresh s n rows
+fresh-cut s n rows = same-rows s rows (take (n * rowWords) rows) n 0 _ (λ j k. part-of-cut rowWords n j rows (omega arith))

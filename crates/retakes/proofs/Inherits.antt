@@ -1,28 +1,25 @@
--- What each made row has, if the row before it has it, every row has after an accepted rendering and any list of edits, `Inherited`: a run
--- makes its rows from row to row, and leaves the others.
+-- What each made row has, if the row before it has it, every row has after an accepted rendering and any list of calls, `Inherited`: a call makes
+-- its rows from row to row, and leaves the others as they were, where they came from.
 use mathlib.Core.Path.{_≡_, refl, sym, ap, subst}
 use mathlib.Core.List.{List, [], _∷_}
 use mathlib.Core.Bool.{Bool, true, false, cond}
 use mathlib.Core.Logic.{_⊎_, inl, inr}
 use Prim.Native.Nat.{ℕ, zero, suc, _+_, _*_, _≤_, _<_}
+use native.Mathlib.Nat.{le-refl}
 use native.Mathlib.Omega.{arith}
-use borrow.Author.Tests.{ltb-false}
-use lib.Dec.{ltb}
+use borrow.Author.Tests.{ltb-false, eqb-true, eqb-false}
+use lib.Dec.{eqb, ltb}
 use lib.ListN.{take, drop}
 use lib.Seq.{drop-drop}
 use Rattle.lists.proofs.Cases.{le-or-lt}
 use Rattle.score.specs.Rows.{rowWords, rowAt}
 use Rattle.score.specs.Limits.{rowWithin, firstBad, badRefusal, limitRefusal}
 use Rattle.score.specs.Numbers.{refusal, accepted, limitNumber}
-use Rattle.rows.specs.Rows.{Setup, Take, beforeRow, Run}
-use Rattle.refusals.specs.Refusals.{rowCount}
-use Rattle.take.specs.Take.{Outcome, renderOf}
-use Rattle.retakes.specs.Retakes.{Edit, withRow, edited, after, wordsAt, Inherits, Inherited}
-use Rattle.take.proofs.Calls.{render-limits, render-run, edit-refused, edit-score}
-use Rattle.retakes.proofs.Takes.{words-elsewhere}
-use Rattle.retakes.proofs.Runs.{Ran}
-use Rattle.retakes.proofs.Editing.{edit-unchanged, edited-run, edit-ran, by-cases, edit-count}
-use Rattle.retakes.proofs.Retakes.{accepted-is, all, render-ran, rendered-rows}
+use Rattle.rows.specs.Rows.{Setup, Take, beforeRow}
+use Rattle.refusals.specs.Calls.{Call, render, countAfter, rowsAfter, position}
+use Rattle.retakes.specs.Retakes.{Reel, refusalIn, next, after, Five, Fives, came, lowestStop, wordsAt, Unchanging, Inherits, Inherited}
+use Rattle.retakes.proofs.Doing.{Does, next-refused, is-accepted, unchanging-or-not, doing, moves, after-is, others, next-unchanging}
+use Rattle.retakes.proofs.Retakes.{accepted-is, five, unchanged-not, all-rows}
 
 -- ---- A score that 9 does not refuse.
 
@@ -52,72 +49,93 @@ module _ (s : Setup) (Has : Take → Type 0) (law : Inherits s Has) where
   abbrev Before : Take → ℕ → Type 0
   Before t j = (i : ℕ) → i < j → Has (wordsAt (s .frames) t i)
 
-  -- ---- A run.
+  -- ---- A call that changes something.
 
-  module _ (rows : List ℕ) (n a e : ℕ) (t : Take) (r : Run) (good : (i : ℕ) → i < n → rowWithin (rowAt rows i) ≡ true) (d : Ran s rows n a e t r) where
+  module _ (o : Reel) (c : Call) (z : refusalIn s o c .number ≡ 0) (f : Five c) (w : Unchanging o c → ⊥) where
+    abbrev D : Does s (o .count) (o .score) (o .left) c
+    D = doing s o c z f w
+
     abbrev u : Take
-    u = r .left
+    u = D .run .left
 
-    -- A row that the run made, from one that has it.
-    made-has : (i : ℕ) → a ≤ i → i < a + r .report .rows → Before u i → Has (wordsAt (s .frames) u i)
+    abbrev n' : ℕ
+    n' = countAfter (o .count) c
+
+    abbrev rows' : List ℕ
+    rows' = rowsAfter (o .count) (o .score) c
+
+    good : (i : ℕ) → i < n' → rowWithin (rowAt rows' i) ≡ true
+    good = each-within n' rows' (is-accepted s o c z .within)
+
+    -- A row that the call made, from one that has it.
+    made-has : (i : ℕ) → position c ≤ i → i < D .did .stop → Before u i → Has (wordsAt (s .frames) u i)
     unfolding beforeRow
-    made-has zero l m b = subst Has (sym (d .made zero l m)) (law .first (rowAt rows zero) (good zero (omega (arith, d .most))))
+    made-has zero l m b = subst Has (sym (D .did .made zero l m)) (law .first (rowAt rows' zero) (good zero (omega (arith, D .did .first .most))))
     made-has (suc i) l m b =
-        subst Has (sym (d .made (suc i) l m)) (law .next (rowAt rows (suc i)) (wordsAt (s .frames) u i) (good (suc i) (omega (arith, d .most))) (b i (omega arith)))
+        subst Has (sym (D .did .made (suc i) l m))
+        (law .next (rowAt rows' (suc i)) (wordsAt (s .frames) u i) (good (suc i) (omega (arith, D .did .first .most))) (b i (omega arith)))
 
-    elsewhere-has : (i : ℕ) → (i < a) ⊎ (a + r .report .rows ≤ i) → Has (wordsAt (s .frames) t i) → Has (wordsAt (s .frames) u i)
-    elsewhere-has i o h = subst Has (sym (words-elsewhere (s .frames) a (a + r .report .rows) t u (d .elsewhere) i o)) h
-
-    -- If the rows that it leaves have it, so have all.
-    run-has : ((i : ℕ) → (i < a) ⊎ (a + r .report .rows ≤ i) → i < n → Has (wordsAt (s .frames) t i)) → (j : ℕ) → j ≤ n → Before u j
-    run-has h zero l i m = absurd (omega arith)
-    run-has h (suc j) l i m = go (run-has h j (omega arith)) (le-or-lt j i)
+    -- If the rows that it does not make have it, so have all.
+    all-have : ((i : ℕ) → (i < position c) ⊎ (D .did .stop ≤ i) → i < n' → Has (wordsAt (s .frames) u i)) → (j : ℕ) → j ≤ n' → Before u j
+    all-have h zero l i m = absurd (omega arith)
+    all-have h (suc j) l i m = go (all-have h j (omega arith)) (le-or-lt j i)
       where
-        row : Before u j → (a ≤ j) ⊎ (j < a) → (a + r .report .rows ≤ j) ⊎ (j < a + r .report .rows) → Has (wordsAt (s .frames) u j)
-        row b (inr x) y = elsewhere-has j (inl x) (h j (inl x) (omega arith))
+        row : Before u j → (position c ≤ j) ⊎ (j < position c) → (D .did .stop ≤ j) ⊎ (j < D .did .stop) → Has (wordsAt (s .frames) u j)
+        row b (inr x) y = h j (inl x) (omega arith)
         row b (inl x) (inr y) = made-has j x y b
-        row b (inl x) (inl y) = elsewhere-has j (inr y) (h j (inr y) (omega arith))
+        row b (inl x) (inl y) = h j (inr y) (omega arith)
 
         go : Before u j → (j ≤ i) ⊎ (i < j) → Has (wordsAt (s .frames) u i)
         go b (inr x) = b i x
         go b (inl x) =
             let q : j ≡ i = omega arith in
-            subst (λ (k : ℕ). Has (wordsAt (s .frames) u k)) q (row b (le-or-lt a j) (le-or-lt (a + r .report .rows) j))
+            subst (λ (k : ℕ). Has (wordsAt (s .frames) u k)) q (row b (le-or-lt (position c) j) (le-or-lt (D .did .stop) j))
 
-  -- ---- One edit.
+    -- Where every row had it, the others have it where they came from.
+    changed-has : Before (o .left) (o .count) → Before (next s o c .left) (next s o c .count)
+    changed-has b = rw (after-is s o c z f w) (all-have (λ i x l. subst Has (sym (others s o c z f w i x l)) (b (came c i) (moves s o c z f w .within i (side i x) l))) n' (le-refl n'))
+      where
+        side : (i : ℕ) → (i < position c) ⊎ (D .did .stop ≤ i) → (i < position c) ⊎ (lowestStop (o .count) c ≤ i)
+        side i (inl x) = inl x
+        side i (inr x) = inr (omega (arith, D .did .first .least))
 
-  edit-has : (rows : List ℕ) (t : Take) (e : Edit) → Before t (rowCount rows) → Before (edited s rows t e .left) (rowCount rows)
-  edit-has rows t e b =
-      let n = rowCount rows in
-      by-cases s rows t e (λ (o : Outcome). Before (o .left) n)
-      (λ h. subst (λ (o : Outcome). Before (o .left) n) (sym (edit-refused s rows t (e .row) (e .words) h)) b)
-      (λ z w. subst (λ (o : Outcome). Before (o .left) n) (sym (edit-unchanged s rows t e z w)) b)
-      (λ z w.
-      let good = each-within n (withRow rows e) (edit-score s rows t (e .row) (e .words) z .1) in
-      let all = run-has (withRow rows e) n _ _ t _ good (edit-ran s rows t e z w) (λ i _ h. b i h) n (omega arith) in
-      subst (λ (o : Outcome). Before (o .left) n) (sym (edited-run s rows t e z w)) all)
+  -- ---- A whole rendering, of any take.
 
-  -- ---- A list of edits.
+  rendered-has : (o : Reel) (z : refusalIn s o render .number ≡ 0) → Before (next s o render .left) (next s o render .count)
+  rendered-has o z = rw (after-is s o render z five unchanged) (all-have o render z five unchanged none (countAfter (o .count) render) (le-refl _))
+    where
+      unchanged : Unchanging o render → ⊥
+      unchanged = unchanged-not s o z
 
-  list-has : (es : List Edit) (o : Outcome) → Before (o .left) (rowCount (o .score)) → Before (after s o es .left) (rowCount (o .score))
-  unfolding after
-  list-has [] o b = b
-  list-has (e ∷ es) o b =
-      let c : rowCount (edited s (o .score) (o .left) e .score) ≡ rowCount (o .score) = edit-count s (o .score) (o .left) e in
-      rw c at (list-has es (edited s (o .score) (o .left) e) (rw c (edit-has (o .score) (o .left) e b)))
+      none : (i : ℕ) → (i < position render) ⊎ (doing s o render z five unchanged .did .stop ≤ i) → i < countAfter (o .count) render
+          → Has (wordsAt (s .frames) (doing s o render z five unchanged .run .left) i)
+      none = unfold countAfter position in λ i x l. absurd (outside i x l)
+        where
+          outside : (i : ℕ) → (i < 0) ⊎ (doing s o render z five unchanged .did .stop ≤ i) → i < o .count → ⊥
+          outside i (inl x) l = omega arith
+          outside i (inr x) l = omega (arith, all-rows s o z)
+
+  -- ---- A list of calls.
+
+  call-has : (o : Reel) (c : Call) → Five c → Before (o .left) (o .count) → Before (next s o c .left) (next s o c .count)
+  call-has o c f b = go (eqb (refusalIn s o c .number) 0) (eqb-true (refusalIn s o c .number) 0) (eqb-false (refusalIn s o c .number) 0)
+    where
+      same : next s o c ≡ o → Before (next s o c .left) (next s o c .count)
+      same q = subst (λ (x : Reel). Before (x .left) (x .count)) (sym q) b
+
+      go : (x : Bool) → (x ≡ true → refusalIn s o c .number ≡ 0) → (x ≡ false → refusalIn s o c .number ≡ 0 → ⊥) → Before (next s o c .left) (next s o c .count)
+      go false a h = same (next-refused s o c (h refl))
+      go true a h = by (unchanging-or-not s o c)
+        where
+          by : Unchanging o c ⊎ (Unchanging o c → ⊥) → Before (next s o c .left) (next s o c .count)
+          by (inl w) = same (next-unchanging s o c f w (a refl))
+          by (inr w) = changed-has o c (a refl) f w b
+
+  list-has : (cs : List Call) → Fives cs → (o : Reel) → Before (o .left) (o .count) → Before (after s o cs .left) (after s o cs .count)
+  unfolding after Fives
+  list-has [] f o b = b
+  list-has (c ∷ cs) f o b = list-has cs (f .1) (next s o c) (call-has o c (f .0) b)
 
 pub inherited : Inherited
-inherited s Has law rows t es x =
-    let a = accepted-is s rows t x in
-    let q = render-run s rows t a in
-    let n = rowCount rows in
-    let c : rowCount (renderOf s rows t .score) ≡ n = ap (λ (o : Outcome). rowCount (o .score)) q in
-    let good = each-within n rows (render-limits s rows t a) in
-    let m : all s rows t a .report .rows ≡ n = rendered-rows s rows t a in
-    let none : (i : ℕ) → (i < 0) ⊎ (0 + all s rows t a .report .rows ≤ i) → i < n → Has (wordsAt (s .frames) t i) = λ i o h. absurd (outside n i m h o) in
-    let first = run-has s Has law rows n 0 n t (all s rows t a) good (render-ran s rows t a) none n (omega arith) in
-    rw c at (list-has s Has law es (renderOf s rows t) (rw (c, q) first))
-  where
-    outside : (n i : ℕ) → all s rows t (accepted-is s rows t x) .report .rows ≡ n → i < n → (i < 0) ⊎ (0 + all s rows t (accepted-is s rows t x) .report .rows ≤ i) → ⊥
-    outside n i m h (inl l) = omega arith
-    outside n i m h (inr l) = omega arith
+unfolding after
+inherited s Has law o cs f x = list-has s Has law cs f (next s o render) (rendered-has s Has law o (accepted-is s o x))

@@ -2,6 +2,7 @@
 pub mod Takes
 pub mod Runs
 pub mod FreshRows
-pub mod Editing
+pub mod Moves
+pub mod Doing
 pub mod Retakes
 pub mod Inherits

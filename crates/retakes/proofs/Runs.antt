@@ -2,12 +2,12 @@
 -- them, no other row is written, and it stops at the first row from its stretch's end on that says so.
 use mathlib.Core.Path.{_≡_, refl, sym, ap, _∙_, subst}
 use mathlib.Core.List.{List}
-use mathlib.Core.Bool.{Bool, true, false, cond, true≢false}
+use mathlib.Core.Bool.{Bool, true, false, cond}
 use mathlib.Core.Logic.{_⊎_, inl, inr}
 use Prim.Native.Nat.{ℕ, zero, suc, _+_, _≤_, _<_}
 use native.Mathlib.Omega.{arith}
 use native.Mathlib.Nat.{eq-or-lt-of-le, le-refl}
-use borrow.Author.Tests.{eqb-true, eqb-false, eq-eqb}
+use borrow.Author.Tests.{eqb-true, eqb-false}
 use lib.Dec.{eqb}
 use Rattle.lists.specs.Lists.{same}
 use Rattle.utils.specs.Holds.{none, plus, total}
@@ -15,9 +15,10 @@ use Rattle.utils.specs.declared.holds.Holds.{Holds}
 use Rattle.score.specs.Rows.{rowAt}
 use Rattle.rows.specs.declared.Report.{Report}
 use Rattle.rows.specs.Rows.{Setup, Take, keptAt, beforeRow, wordsBefore, Row, rowBy, rowIn, putWords, both, Run, idle, after, stopsOf, runOf}
-use Rattle.retakes.specs.Retakes.{wordsAt, Elsewhere, holdsOf, madeFrom}
+use Rattle.retakes.specs.Retakes.{wordsAt, holdsOf, madeFrom}
+use Rattle.rows.proofs.Ending.{not-the-end}
 use Rattle.runs.proofs.Turns.{SameLengths}
-use Rattle.retakes.proofs.Takes.{Roomy, lengths-then, roomy-still, row-sized, put-lengths, put-elsewhere, put-words, elsewhere-then, words-elsewhere}
+use Rattle.retakes.proofs.Takes.{Roomy, Elsewhere, lengths-then, roomy-still, row-sized, put-lengths, put-elsewhere, put-words, elsewhere-then, words-elsewhere}
 
 module _ (s : Setup) (rows : List ℕ) where
   -- Row i stands as made from the words that the take keeps before it.
@@ -34,13 +35,6 @@ module _ (s : Setup) (rows : List ℕ) where
   -- A row that has the same words before it is the same row.
   pub row-same : (t u : Take) (i : ℕ) → wordsBefore s (u .kept) i ≡ wordsBefore s (t .kept) i → rowIn s rows (u .kept) i ≡ rowIn s rows (t .kept) i
   row-same t u i e = ap (λ (b : List ℕ). rowBy s (rowAt rows i) b) e
-
-  -- Rows made from words that are alike before them are alike.
-  pub made-alike : (kept kept' : List ℕ) (l a : ℕ) → ((i : ℕ) → a ≤ i → i < a + l → rowIn s rows kept i ≡ rowIn s rows kept' i)
-      → madeFrom s rows kept l a ≡ madeFrom s rows kept' l a
-  unfolding madeFrom
-  made-alike kept kept' zero a h = refl
-  made-alike kept kept' (suc l) a h = rw (h a (le-refl a) (omega arith), made-alike kept kept' l (a + 1) (λ i x y. h i (omega arith) (omega arith)))
 
   module _ (n : ℕ) where
     -- Whether a run stops before row j, by the take that it was lent and the one that it left.
@@ -179,13 +173,6 @@ module _ (s : Setup) (rows : List ℕ) where
               go (inl w) = subst (λ (j : ℕ). StopsAt t (r .left) j ≡ false) w (test-is (r .left) kept ∙ q .1 .1)
               go (inr l) = beyond i (omega arith) ∙ d .smallest i (omega (arith, q .1 .0)) (omega arith)
 
-      -- A stop is found at the end at the latest.
-      not-the-end : test ≡ false → a + 2 ≤ n
-      unfolding stopsOf
-      not-the-end y =
-          let q : a + 1 ≡ n → ⊥ = λ (x : a + 1 ≡ n). true≢false (sym (rw (eq-eqb (a + 1) n x)) ∙ y) in
-          omega (arith, q)
-
     -- ---- The run, where l rows are enough.
 
     pub run-ran : (l a e : ℕ) (t : Take) → a < e → e ≤ n → n ≤ a + l → Roomy s n rows t → Ran a e t (runOf s rows n l a e t)
@@ -200,7 +187,7 @@ module _ (s : Setup) (rows : List ℕ) where
             → Ran a e t (after (one a t k z) (cond x (cond y (idle (next a t k z)) (runOf s rows n l (a + 1) (a + 2) (next a t k z))) (runOf s rows n l (a + 1) e (next a t k z))))
         go k true true q o y again = ran-last a t k z e (sym (q refl)) y
         go k true false q o y again =
-            ran-more a t k z e (a + 2) _ h (le-refl _) (inr (sym (q refl), (refl, y))) (again (a + 2) (omega arith) (not-the-end a t k z y))
+            ran-more a t k z e (a + 2) _ h (le-refl _) (inr (sym (q refl), (refl, y))) (again (a + 2) (omega arith) (omega (arith, not-the-end n rows (a + 1) _ y)))
         go k false y q o w again =
             let f : a + 2 ≤ e = omega (arith, o refl) in
             ran-more a t k z e e _ h f (inl refl) (again e (omega arith) g)

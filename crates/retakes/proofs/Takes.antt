@@ -11,7 +11,8 @@ use Rattle.voice.specs.Voice.{keptCount}
 use Rattle.voice.proofs.Laws as voice
 use Rattle.rows.specs.Rows.{Setup, Take, rowFrom, rowBy, putWords}
 use Rattle.runs.proofs.Turns.{SameLengths}
-use Rattle.retakes.specs.Retakes.{wordsAt, Elsewhere}
+use Rattle.lists.specs.Lists.{Outside}
+use Rattle.retakes.specs.Retakes.{wordsAt}
 
 -- The buffers hold n rows.
 pub record Roomy (s : Setup) (n : ℕ) (rows : List ℕ) (t : Take) : Type 0 where
@@ -36,6 +37,12 @@ roomy-still s n rows t u l r =
       aux-room = omega (arith, r .aux-room, l .aux-long);
       kept-room = omega (arith, r .kept-room, l .kept-long);
     }
+
+-- Outside rows k to j - 1 a take is as it was.
+pub record Elsewhere (frames k j : ℕ) (old new : Take) : Type 0 where
+  pub out : Outside frames k j (old .out) (new .out)
+  pub aux : Outside frames k j (old .aux) (new .aux)
+  pub kept : Outside keptCount k j (old .kept) (new .kept)
 
 -- ---- A row.
 

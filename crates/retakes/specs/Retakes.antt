@@ -1,14 +1,14 @@
--- Demand 3: what is promised of an accepted whole rendering and of every list of row edits after it; and before it, what an edit does to any
--- take. The calls are `renderOf` and `editOf` of take · Take, to which the code is proved equal. Below: fresh rendering, lists of edits, what one
--- edit does, and the claims: `Retakes` of any take, `Inherited` of what every row has, `Demand3`.
-use Prim.Native.Nat.{ℕ, zero, suc, _+_, _-_, _≤_, _<_}
+-- Demand 3: what is promised of an accepted whole rendering and of every list of calls after it, edits, insertions, removals and renderings; and
+-- before it, what a call does to any take. The calls are `callOf` of take · Take, to which the code is proved equal. Below: fresh rendering, lists
+-- of calls, what one call does, and the claims: `Retakes` of any take, `Inherited` of what every row has, `Demand3`.
+use Prim.Native.Nat.{ℕ, zero, suc, _+_, _-_, _*_, _≤_, _<_}
 use mathlib.Core.List.{List, [], _∷_, _++_, map}
-use mathlib.Core.Bool.{true, cond}
+use mathlib.Core.Bool.{Bool, true, cond}
 use mathlib.Core.Path.{_≡_}
 use mathlib.Core.Logic.{_⊎_}
-use lib.Dec.{eqb}
+use lib.Dec.{eqb, ltb}
 use lib.ListN.{length, getD, take, drop}
-use Rattle.lists.specs.Lists.{part, Outside}
+use Rattle.lists.specs.Lists.{part, put}
 use Rattle.utils.specs.Holds.{none, total}
 use Rattle.utils.specs.declared.holds.Holds.{Holds}
 use Rattle.voice.specs.declared.State.{State}
@@ -16,10 +16,12 @@ use Rattle.voice.specs.Voice.{keptCount, voiceOf, keptWords, stateOf}
 use Rattle.score.specs.Rows.{rowWords, wordFor, restart, rowAt, putRow}
 use Rattle.score.specs.Limits.{rowWithin}
 use Rattle.score.specs.Numbers.{done, refused}
+use Rattle.score.specs.declared.refusal.Refusal.{Refusal}
 use Rattle.rows.specs.Rows.{Setup, Take, lent, freshStart, Row, rowFrom, rowBy, rowIn, wordsBefore}
+use Rattle.refusals.specs.Calls.{Call, render, edit, insert, remove, countAfter, position}
+use Rattle.refusals.specs.Refusals.{refusalOf}
 use Rattle.take.specs.declared.Answer.the-variants.{Done}
-use Rattle.refusals.specs.Refusals.{rowCount, scoreRefusal, editRefusal}
-use Rattle.take.specs.Take.{resultOf, Outcome, renderOf, editOf}
+use Rattle.take.specs.Take.{resultOf, Outcome, callOf}
 
 -- ---- Fresh rendering.
 
@@ -61,134 +63,203 @@ abbrev pub beforeIn : Setup → List Row → ℕ → List ℕ
 beforeIn s rs zero = keptWords (freshStart s)
 beforeIn s rs (suc i) = getD rs i noRow .words .kept
 
--- ---- Lists of edits.
+-- ---- Lists of calls.
 
--- An edit: the row's number and its five words.
-pub record Edit : Type 0 where
-  pub row : ℕ
-  pub words : List ℕ
-  pub five : length words ≡ rowWords
+-- What a call is handed and leaves: the row count, the lent row words and the lent take.
+pub record Reel : Type 0 where
+  pub count : ℕ
+  pub score : List ℕ
+  pub left : Take
 
--- The score with the edit's row put in.
-abbrev pub withRow : List ℕ → Edit → List ℕ
-withRow rows e = putRow rows (e .row) (e .words)
+abbrev pub reel : ℕ → List ℕ → Take → Reel
+reel n rows t = record { count = n; score = rows; left = t }
 
--- "An accepted edit puts its words into its row; a refused one .. leaves score and take." In a list the lengths are right, since the
--- rendering was accepted: 8 and 9 alone can refuse.
-unfoldable pub scoreOne : List ℕ → Edit → List ℕ
-scoreOne rows e = cond (eqb (scoreRefusal rows (e .row) (e .words) .number) 0) (withRow rows e) rows
+-- What the table says of a call that is handed a reel.
+abbrev pub refusalIn : Setup → Reel → Call → Refusal
+refusalIn s o c = refusalOf s (o .count) (o .score) (o .left) c
 
--- "The score of a list is at first the one that the accepted rendering was lent."
-unfoldable pub scoreAfter : List ℕ → List Edit → List ℕ
-scoreAfter rows [] = rows
-scoreAfter rows (e ∷ es) = scoreAfter (scoreOne rows e) es
+abbrev pub accepts : Setup → Reel → Call → Bool
+accepts s o c = eqb (refusalIn s o c .number) 0
 
--- An edit handed a score and a take.
-abbrev pub edited : Setup → List ℕ → Take → Edit → Outcome
-edited s rows t e = editOf s rows (e .row) (e .words) t
+-- A call handed a reel.
+abbrev pub called : Setup → Reel → Call → Outcome
+called s o c = callOf s (o .count) (o .score) (o .left) c
 
--- What a list of edits leaves, "each edit is handed the score and take as the call before it left them".
-unfoldable pub after : Setup → Outcome → List Edit → Outcome
+-- What it leaves. "each call handed the row count as it then is": the caller counts an accepted insertion or removal.
+unfoldable pub next : Setup → Reel → Call → Reel
+next s o c =
+    let a = called s o c in
+    reel (cond (eqb (resultOf (a .answer) .number) 0) (countAfter (o .count) c) (o .count)) (a .score) (a .left)
+
+-- What a list of calls leaves, each handed what the call before it left.
+unfoldable pub after : Setup → Reel → List Call → Reel
 after s o [] = o
-after s o (e ∷ es) = after s (edited s (o .score) (o .left) e) es
+after s o (c ∷ cs) = after s (next s o c) cs
 
--- ---- What one edit does.
+-- A row has five words.
+unfoldable pub Five : Call → Type 0
+Five render = Unit {0}
+Five (edit k row) = length row ≡ rowWords
+Five (insert p row) = length row ≡ rowWords
+Five (remove p) = Unit {0}
 
--- The smallest j above k that is the end, or whose row restarts, or before which the state's words are the same, by `old` and by `new`, which
--- say the words of the state before a row.
+unfoldable pub Fives : List Call → Type 0
+Fives [] = Unit {0}
+Fives (c ∷ cs) = Five c × Fives cs
+
+-- ---- What a list of calls is to leave.
+
+-- A score: the words of the rows below the count.
+abbrev pub scoreOf : Reel → List ℕ
+scoreOf o = take (o .count * rowWords) (o .score)
+
+-- A score with a call's row put in its place, put between the others, or taken out.
+unfoldable pub scoreWith : List ℕ → Call → List ℕ
+scoreWith rows render = rows
+scoreWith rows (edit k row) = putRow rows k row
+scoreWith rows (insert p row) = take (p * rowWords) rows ++ (row ++ drop (p * rowWords) rows)
+scoreWith rows (remove p) = take (p * rowWords) rows ++ drop ((p + 1) * rowWords) rows
+
+-- The fresh rendering of a reel's score.
+abbrev pub freshOf : Setup → Reel → List Row
+freshOf s o = fresh s (o .count) (scoreOf o)
+
+-- A take's words with a rendering's laid over them from the first place on: "Places past the new count keep their words."
+abbrev pub laidOver : Take → Take → Take
+laidOver t u = lent (put (t .out) 0 (u .out)) (put (t .aux) 0 (u .aux)) (put (t .kept) 0 (u .kept))
+
+-- What an accepted call is to leave: the score with its row put in or taken out, and the fresh rendering of that score, each laid over what it was
+-- handed.
+unfoldable pub afresh : Setup → Reel → Call → Reel
+afresh s o c =
+    let n = countAfter (o .count) c in
+    let score = scoreWith (scoreOf o) c in
+    reel n (put (o .score) 0 score) (laidOver (o .left) (takeOf (fresh s n score)))
+
+-- "a refused one .. leaves score and take."
+unfoldable pub expected : Setup → Reel → List Call → Reel
+expected s o [] = o
+expected s o (c ∷ cs) = expected s (cond (accepts s o c) (afresh s o c) o) cs
+
+-- ---- What one call does.
+
+-- Where row i of the score after a call came from: the rows behind one put in stood a place lower, those behind one taken out a place higher.
+unfoldable pub came : Call → ℕ → ℕ
+came render i = i
+came (edit k row) i = i
+came (insert p row) i = cond (ltb p i) (i - 1) i
+came (remove p) i = cond (ltb i p) i (i + 1)
+
+-- The lowest row before which a call handed a count of n may stop: a rendering renders all rows, an edit and an insertion their own at least; "after
+-- a removal the row now there" is measured too.
+unfoldable pub lowestStop : ℕ → Call → ℕ
+lowestStop n render = n
+lowestStop n (edit k row) = k + 1
+lowestStop n (insert p row) = p + 1
+lowestStop n (remove p) = p
+
+-- The smallest j from `low` on that is the end, or whose row restarts, or before which the state's words are the same, by `old` and by `new`,
+-- which say the words of the state before a row, where it came from and where it is.
 abbrev pub Stop : ℕ → List ℕ → (ℕ → List ℕ) → (ℕ → List ℕ) → ℕ → Type 0
 Stop n rows old new j = (j ≡ n) ⊎ ((wordFor restart (rowAt rows j) ≡ 1) ⊎ (old j ≡ new j))
 
-pub record First (n : ℕ) (rows : List ℕ) (old new : ℕ → List ℕ) (k j : ℕ) : Type 0 where
-  pub above : k < j
+pub record First (n : ℕ) (rows : List ℕ) (old new : ℕ → List ℕ) (low j : ℕ) : Type 0 where
+  pub least : low ≤ j
   pub most : j ≤ n
   pub stops : Stop n rows old new j
-  pub smallest : (i : ℕ) → k < i → i < j → Stop n rows old new i → ⊥
-
--- Outside rows k to j - 1 a take is as it was.
-pub record Elsewhere (frames k j : ℕ) (old new : Take) : Type 0 where
-  pub out : Outside frames k j (old .out) (new .out)
-  pub aux : Outside frames k j (old .aux) (new .aux)
-  pub kept : Outside keptCount k j (old .kept) (new .kept)
-
--- "The edit writes row k's words and the blocks and kept words of rows k to j - 1, nothing else. It reports j - k, and as `held` the sum
--- over these rows" of what they hold.
-pub record Writes (s : Setup) (rows : List ℕ) (t : Take) (e : Edit) (o : Outcome) (j : ℕ) (holds : Holds) : Type 0 where
-  pub reports : o .answer ≡ Done (record { rows = j - e .row; holds = holds })
-  pub score : o .score ≡ withRow rows e
-  pub score-elsewhere : Outside rowWords (e .row) (e .row + 1) rows (o .score)
-  pub elsewhere : Elsewhere (s .frames) (e .row) j t (o .left)
-
--- Score and take are left as they were.
-pub record Untouched (rows : List ℕ) (t : Take) (o : Outcome) : Type 0 where
-  pub score : o .score ≡ rows
-  pub left : o .left ≡ t
-
--- An edit is refused just where the table says so, "with number and place as the table says"; "An accepted edit that changes no word
--- writes nothing and reports 0 for both"; of one that changes its row's words, `Changed` is true.
-pub record Right (s : Setup) (rows : List ℕ) (t : Take) (e : Edit) (o : Outcome) (Changed : Type 0) : Type 0 where
-  pub refuses : (editRefusal s rows (e .row) (e .words) t .number ≡ 0 → ⊥)
-      → (resultOf (o .answer) ≡ refused (editRefusal s rows (e .row) (e .words) t)) × Untouched rows t o
-  pub unchanged : editRefusal s rows (e .row) (e .words) t .number ≡ 0 → rowAt rows (e .row) ≡ e .words
-      → (resultOf (o .answer) ≡ done (0 ∷ 0 ∷ [])) × Untouched rows t o
-  pub changed : editRefusal s rows (e .row) (e .words) t .number ≡ 0 → (rowAt rows (e .row) ≡ e .words → ⊥) → Changed
-
--- ---- Any take: "These rules hold for junk in out, aux and kept as well".
+  pub smallest : (i : ℕ) → low ≤ i → i < j → Stop n rows old new i → ⊥
 
 -- Row i of a take.
 abbrev pub wordsAt : ℕ → Take → ℕ → Take
 wordsAt frames t i = lent (part frames (t .out) i) (part frames (t .aux) i) (part keptCount (t .kept) i)
+
+-- Past the first n rows a take is as it was.
+pub record Past (frames n : ℕ) (old new : Take) : Type 0 where
+  pub out : drop (n * frames) (new .out) ≡ drop (n * frames) (old .out)
+  pub aux : drop (n * frames) (new .aux) ≡ drop (n * frames) (old .aux)
+  pub kept : drop (n * keptCount) (new .kept) ≡ drop (n * keptCount) (old .kept)
+
+-- The call reports the rows from its position to before row j, and what they hold. It leaves the lent row words with its score in them. The other
+-- rows of the take are as they were, each where it came from, and so is what lies past the count.
+pub record Writes (s : Setup) (o : Reel) (c : Call) (j : ℕ) (holds : Holds) : Type 0 where
+  pub reports : called s o c .answer ≡ Done (record { rows = j - position c; holds = holds })
+  pub count : next s o c .count ≡ countAfter (o .count) c
+  pub score : next s o c .score ≡ put (o .score) 0 (scoreWith (scoreOf o) c)
+  pub others : (i : ℕ) → (i < position c) ⊎ (j ≤ i) → i < next s o c .count → wordsAt (s .frames) (next s o c .left) i ≡ wordsAt (s .frames) (o .left) (came c i)
+  pub past : Past (s .frames) (next s o c .count) (o .left) (next s o c .left)
+
+-- An edit that changes no word.
+unfoldable pub Unchanging : Reel → Call → Type 0
+Unchanging o render = ⊥
+Unchanging o (edit k row) = rowAt (o .score) k ≡ row
+Unchanging o (insert p row) = ⊥
+Unchanging o (remove p) = ⊥
+
+-- A call is refused just where the table says so, "with number and place as the table says"; "An accepted edit that changes no word writes nothing
+-- and reports 0 for both"; of every other accepted call `Changed` is true.
+pub record Right (s : Setup) (o : Reel) (c : Call) (Changed : Type 0) : Type 0 where
+  pub refuses : (refusalIn s o c .number ≡ 0 → ⊥) → (resultOf (called s o c .answer) ≡ refused (refusalIn s o c)) × (next s o c ≡ o)
+  pub unchanged : refusalIn s o c .number ≡ 0 → Unchanging o c → (resultOf (called s o c .answer) ≡ done (0 ∷ 0 ∷ [])) × (next s o c ≡ o)
+  pub changed : refusalIn s o c .number ≡ 0 → (Unchanging o c → ⊥) → Changed
+
+-- ---- Any take: "These rules hold for junk in out, aux and kept as well".
 
 -- Rows from row i on, as many as the first number says, each from the words that some kept words have before it.
 unfoldable pub madeFrom : Setup → List ℕ → List ℕ → ℕ → ℕ → List Row
 madeFrom s rows kept zero i = []
 madeFrom s rows kept (suc l) i = rowIn s rows kept i ∷ madeFrom s rows kept l (i + 1)
 
--- An edit of any take stops at the smallest j above k where "j is n, or row j restarts", or "the 13 words kept after j - 1 are the same as
--- before the edit", in the take that it leaves and in the one that it was lent. Each row k to j - 1 is made from the words that the take
--- then keeps before it, and what these rows hold is reported.
-pub record Retaken (s : Setup) (rows : List ℕ) (t : Take) (e : Edit) (o : Outcome) : Type 0 where
+-- A call on any take renders rows from its position on, and stops at the smallest j where "j is n, or row j restarts", or "the 13 words kept after
+-- j - 1 are the same" as those before row j where it came from, in the take that the call was lent. Each row that it renders is made from the
+-- words that the take then keeps before it, and what these rows hold is reported.
+pub record Retaken (s : Setup) (o : Reel) (c : Call) : Type 0 where
   pub stop : ℕ
-  pub first : First (rowCount rows) (withRow rows e) (wordsBefore s (t .kept)) (wordsBefore s (o .left .kept)) (e .row) stop
-  pub made : (i : ℕ) → e .row ≤ i → i < stop → wordsAt (s .frames) (o .left) i ≡ rowIn s (withRow rows e) (o .left .kept) i .words
-  pub writes : Writes s rows t e o stop (holdsOf (madeFrom s (withRow rows e) (o .left .kept) (stop - e .row) (e .row)))
+  pub first : let o' = next s o c in
+      First (o' .count) (o' .score) (λ j. wordsBefore s (o .left .kept) (came c j)) (wordsBefore s (o' .left .kept)) (lowestStop (o .count) c) stop
+  pub made : let o' = next s o c in
+      (i : ℕ) → position c ≤ i → i < stop → wordsAt (s .frames) (o' .left) i ≡ rowIn s (o' .score) (o' .left .kept) i .words
+  pub writes : let o' = next s o c in
+      Writes s o c stop (holdsOf (madeFrom s (o' .score) (o' .left .kept) (stop - position c) (position c)))
 
 abbrev pub Retakes : Type 0
-Retakes = (s : Setup) (rows : List ℕ) (t : Take) (e : Edit) → Right s rows t e (edited s rows t e) (Retaken s rows t e (edited s rows t e))
+Retakes = (s : Setup) (o : Reel) (c : Call) → Five c → Right s o c (Retaken s o c)
 
 -- ---- Takes of a list.
 
--- Where the take is that of a fresh rendering, "the smallest j above k where j is n, or row j restarts, or the fresh renderings of the score
--- before and after this edit keep the same 13 words after row j - 1"; "and as `held` the sum over these rows in the fresh rendering of the
--- score after it".
-pub record FreshRetaken (s : Setup) (rows : List ℕ) (t : Take) (e : Edit) (o : Outcome) : Type 0 where
+-- Where the take is that of a fresh rendering, "the smallest j .. where j is n, or row j restarts, or the fresh renderings of the score before and
+-- after this [call] keep the same 13 words" before it, there where it came from and here; "and as `held` the sum over these rows in the fresh
+-- rendering of the score after it".
+pub record FreshRetaken (s : Setup) (o : Reel) (c : Call) : Type 0 where
   pub stop : ℕ
-  pub first : let n = rowCount rows in
-      First n (withRow rows e) (beforeIn s (fresh s n rows)) (beforeIn s (fresh s n (withRow rows e))) (e .row) stop
-  pub writes : Writes s rows t e o stop (holdsOf (rowsFrom (fresh s (rowCount rows) (withRow rows e)) (e .row) stop))
+  pub first : let o' = next s o c in
+      First (o' .count) (scoreOf o') (λ j. beforeIn s (freshOf s o) (came c j)) (beforeIn s (freshOf s o')) (lowestStop (o .count) c) stop
+  pub writes : Writes s o c stop (holdsOf (rowsFrom (freshOf s (next s o c)) (position c) stop))
 
--- Each edit of a list, handed what the call before it left.
-unfoldable pub EachRight : Setup → Outcome → List Edit → Type 0
+-- Each call of a list, handed what the call before it left.
+unfoldable pub EachRight : Setup → Reel → List Call → Type 0
 EachRight s o [] = Unit {0}
-EachRight s o (e ∷ es) =
-    let next = edited s (o .score) (o .left) e in
-    Right s (o .score) (o .left) e next (FreshRetaken s (o .score) (o .left) e next) × EachRight s next es
+EachRight s o (c ∷ cs) = Right s o c (FreshRetaken s o c) × EachRight s (next s o c) cs
 
--- After the rendering and the list: the score is the first one with each accepted edit's row put in; out, aux and kept are those of a fresh
--- rendering of that score; the rendering reported all its rows and what they hold; and each edit of the list was right.
-pub record Promise (s : Setup) (rows : List ℕ) (t : Take) (es : List Edit) : Type 0 where
-  pub score : after s (renderOf s rows t) es .score ≡ scoreAfter rows es
-  pub take-fresh : after s (renderOf s rows t) es .left ≡ takeOf (fresh s (rowCount rows) (scoreAfter rows es))
-  pub rendered : renderOf s rows t .answer ≡ Done (record { rows = rowCount rows; holds = holdsOf (fresh s (rowCount rows) rows) })
-  pub each : EachRight s (renderOf s rows t) es
+-- The first n rows of a take.
+abbrev pub cut : Setup → ℕ → Take → Take
+cut s n t = lent (take (n * s .frames) (t .out)) (take (n * s .frames) (t .aux)) (take (n * keptCount) (t .kept))
+
+-- After the rendering and the list: score and take, to the last lent word, are what they are to be; so the rows below the count are those of a
+-- fresh rendering of the resulting score; the rendering reported all its rows and what they hold; and each call of the list was right.
+pub record Promise (s : Setup) (o : Reel) (cs : List Call) : Type 0 where
+  pub all : after s o (render ∷ cs) ≡ expected s o (render ∷ cs)
+  pub below : let o' = after s o (render ∷ cs) in cut s (o' .count) (o' .left) ≡ takeOf (freshOf s o')
+  pub rendered : called s o render .answer ≡ Done (record { rows = o .count; holds = holdsOf (freshOf s o) })
+  pub each : EachRight s (next s o render) cs
 
 -- A rendering that no number refuses.
-abbrev pub Accepted : Setup → List ℕ → Take → Type 0
-Accepted s rows t = resultOf (renderOf s rows t .answer) .number ≡ 0
+abbrev pub Accepted : Setup → Reel → Type 0
+Accepted s o = resultOf (called s o render .answer) .number ≡ 0
 
--- "For every accepted whole rendering and every list of row edits after it, refused edits included", of any words in the lent take.
+-- "For every accepted whole rendering and every list of row edits after it, refused edits included", into which "may mix .. insertions and
+-- removals", and further renderings; of any words in the lent take and past the count.
 abbrev pub Demand3 : Type 0
-Demand3 = (s : Setup) (rows : List ℕ) (t : Take) (es : List Edit) → Accepted s rows t → Promise s rows t es
+Demand3 = (s : Setup) (o : Reel) (cs : List Call) → Fives cs → Accepted s o → Promise s o cs
 
 -- ---- What every row has.
 
@@ -197,7 +268,7 @@ pub record Inherits (s : Setup) (Has : Take → Type 0) : Type 0 where
   pub first : (row : List ℕ) → rowWithin row ≡ true → Has (rowBy s row (keptWords (freshStart s)) .words)
   pub next : (row : List ℕ) (w : Take) → rowWithin row ≡ true → Has w → Has (rowBy s row (w .kept) .words)
 
--- Every row of the take has it, after an accepted rendering and every list of edits.
+-- Every row of the take has it, after an accepted rendering and every list of calls.
 abbrev pub Inherited : Type 1
-Inherited = (s : Setup) (Has : Take → Type 0) → Inherits s Has → (rows : List ℕ) (t : Take) (es : List Edit) → Accepted s rows t
-    → (i : ℕ) → i < rowCount rows → Has (wordsAt (s .frames) (after s (renderOf s rows t) es .left) i)
+Inherited = (s : Setup) (Has : Take → Type 0) → Inherits s Has → (o : Reel) (cs : List Call) → Fives cs → Accepted s o
+    → (i : ℕ) → i < after s o (render ∷ cs) .count → Has (wordsAt (s .frames) (after s o (render ∷ cs) .left) i)

@@ -6,7 +6,7 @@ use lib.Dec.{eqb}
 use lib.IntN.{ℤ}
 use lib.ListN.{getD}
 use lib.Ieee.{Float, binary32, ofBits}
-use Rattle.lists.specs.Lists.{part, put, same}
+use Rattle.lists.specs.Lists.{part, put, shiftUp, shiftDown, same}
 use Rattle.utils.specs.Units.{a0Of}
 use Rattle.utils.specs.Holds.{none, plus}
 use Rattle.utils.specs.declared.holds.Holds.{Holds}
@@ -99,6 +99,21 @@ rowIn s rows kept i = rowBy s (rowAt rows i) (wordsBefore s kept i)
 abbrev pub putWords : ℕ → Take → ℕ → Take → Take
 putWords frames t i w =
     lent (put (t .out) (i * frames) (w .out)) (put (t .aux) (i * frames) (w .aux)) (put (t .kept) (i * keptCount) (w .kept))
+
+-- ---- Places moved: "Inserting moves later rows, blocks and states up by one place; removing moves them down."
+
+-- The kept words of n rows with a place made for row p. There stand the words of the state before it: so the row behind has before it what it
+-- had where it came from.
+abbrev pub keptRoom : State → ℕ → List ℕ → ℕ → List ℕ
+keptRoom fresh n kept p = put (shiftUp keptCount kept p n) (p * keptCount) (beforeRow fresh kept p)
+
+-- A take of n rows with a place made for row p.
+abbrev pub roomAt : ℕ → State → ℕ → Take → ℕ → Take
+roomAt frames fresh n t p = lent (shiftUp frames (t .out) p n) (shiftUp frames (t .aux) p n) (keptRoom fresh n (t .kept) p)
+
+-- A take of n rows with row p taken out.
+abbrev pub closedAt : ℕ → ℕ → Take → ℕ → Take
+closedAt frames n t p = lent (shiftDown frames (t .out) p n) (shiftDown frames (t .aux) p n) (shiftDown keptCount (t .kept) p n)
 
 -- ---- Rows after one another.
 

@@ -5,8 +5,8 @@ ghost use lib.ListN.{length};
 ghost use Rattle.lists.specs.Lists.{put, same};
 ghost use Rattle.utils.specs.Units.{a0Of};
 ghost use Rattle.score.specs.Rows.{rowWords, mostRows};
-ghost use Rattle.voice.specs.Voice.{Lent, Tables, keptCount, voiceOf, freshState, stateOf};
-ghost use Rattle.rows.specs.Rows.{setup, lent, keptAt, beforeRow, parametersOf, startOf, rowBy, nothing, reported, runOf};
+ghost use Rattle.voice.specs.Voice.{keptCount, voiceOf, freshState, stateOf};
+ghost use Rattle.rows.specs.Rows.{keptAt, beforeRow, keptRoom, parametersOf, startOf, nothing, stopsOf};
 ghost use Rattle.rows.specs.Ends.{endOf};
 use score::rows::HARMONICS;
 use score::rows::MORPH;
@@ -67,7 +67,7 @@ fn fresh_start(instrument: u32, rate: u32) -> voice::State
 
 // The words of the state before row k: those kept after the row before it, and at row 0 those of the fresh state.
 pub fn words_before(instrument: u32, rate: u32, kept: &[u32], k: usize) -> [u32; KEPT_WORDS]
-    requires { ⌜ (k < mostRows) × (k * keptCount ≤ length (now kept)) ⌝ }
+    requires { ⌜ (k ≤ mostRows) × (k * keptCount ≤ length (now kept)) ⌝ }
     ensures { λ r. ⌜ r ≡ beforeRow (freshState (voiceOf instrument) (a0Of rate)) (now (kept .entry)) k ⌝ }
 {
     if k == 0 {
@@ -110,6 +110,33 @@ pub fn keep(new: [u32; KEPT_WORDS], k: usize, kept: &mut [u32]) -> bool
     same
 }
 
+// The kept words of n rows with a place made for row p, where the words of the state before it then stand.
+pub fn make_room(instrument: u32, rate: u32, kept: &mut [u32], n: usize, p: usize)
+    requires { ⌜ (p ≤ n) × (n < mostRows) ⌝ }
+    requires { ⌜ (n + 1) * keptCount ≤ length (now kept) ⌝ }
+    ensures { λ _. ⌜ now (kept .exit) ≡ keptRoom (freshState (voiceOf instrument) (a0Of rate)) n (now (kept .entry)) p ⌝ }
+{
+    let before = words_before(instrument, rate, kept, p);
+    lists::shift_up(kept, KEPT_WORDS, p, n);
+    let _same = keep(before, p, kept);
+}
+
+// Whether a run stops before row j of n, told whether the words kept before it are as they were.
+pub fn stops(rows: &[u32], n: usize, j: usize, same: bool) -> bool
+    requires { ⌜ (j ≤ n) × (n ≤ mostRows) ⌝ }
+    requires { ⌜ n * rowWords ≤ length (now rows) ⌝ }
+    ensures { λ r. ⌜ r ≡ stopsOf n (now (rows .entry)) j same ⌝ }
+{
+    if j == n {
+        return true;
+    }
+    let restarts = score::rows::restarts(score::rows::row_at(rows, j));
+    if restarts {
+        return true;
+    }
+    same
+}
+
 // Where a stretch that ended before row `end` ends once row j of n is reached: there, or a row further, or 0 where the run stops.
 pub fn next_end(rows: &[u32], n: usize, j: usize, end: usize, same: bool) -> usize
     requires { ⌜ (j ≤ n) × (n ≤ mostRows) ⌝ }
@@ -119,14 +146,8 @@ pub fn next_end(rows: &[u32], n: usize, j: usize, end: usize, same: bool) -> usi
     if j != end {
         return end;
     }
-    if j == n {
-        return 0;
-    }
-    let restarts = score::rows::restarts(score::rows::row_at(rows, j));
-    if restarts {
-        return 0;
-    }
-    if same {
+    let stop = stops(rows, n, j, same);
+    if stop {
         return 0;
     }
     j + 1

@@ -1,11 +1,11 @@
 -- The loop over the rows of a run, by what is left to do: rendering a row and going on is the definition's next step.
 use mathlib.Core.Path.{_≡_, refl, sym, ap, _∙_}
 use mathlib.Core.List.{List}
-use mathlib.Core.Bool.{Bool, true, false, cond, _||_, true≢false}
+use mathlib.Core.Bool.{Bool, true, false, cond}
 use Prim.Native.Nat.{ℕ, suc, _+_, _-_, _*_, _≤_, _<_}
 use native.Mathlib.Nat.{add-zero, zero-add, add-assoc, le-refl}
 use native.Mathlib.Omega.{arith}
-use borrow.Author.Tests.{eq-eqb, eqb-false}
+use borrow.Author.Tests.{eqb-false}
 use lib.Dec.{eqb}
 use lib.ListN.{length}
 use Rattle.lists.specs.Lists.{same}
@@ -18,6 +18,7 @@ use Rattle.score.specs.Rows.{mostRows, rowAt, restarts}
 use Rattle.rows.specs.declared.Report.{Report}
 use Rattle.rows.specs.Rows.{Setup, Take, Row, keptAt, rowIn, nothing, both, Run, reported, idle, after, stopsOf, runOf}
 use Rattle.rows.specs.Ends.{endOf}
+use Rattle.rows.proofs.Ending.{not-the-end}
 use Rattle.runs.specs.Inner.{Holding, Room, RowDone}
 
 -- ---- Reports, summed.
@@ -138,11 +139,8 @@ module _ (s : Setup) (rows : List ℕ) (n from to : ℕ) where
       within : e ≤ n
       goes : (l : ℕ) → l + (k + 1 - from) ≡ n → after sum (runOf s rows n l (k + 1) e t') ≡ runOf s rows n n from to t₀
 
-    not-the-end : stops ≡ false → k + 2 ≤ n
-    unfolding stopsOf
-    not-the-end y =
-        let q : k + 1 ≡ n → ⊥ = λ (x : k + 1 ≡ n). true≢false (sym (rw (eq-eqb (k + 1) n x)) ∙ y) in
-        omega (arith, q, r .at, r .most)
+    further-on : stops ≡ false → k + 2 ≤ n
+    further-on y = omega (arith, not-the-end n rows (k + 1) _ y, r .at, r .most)
 
     next : (e ≡ 0 → ⊥) → Next
     next z = go (eqb (k + 1) end) stops (eqb-false (k + 1) end) refl end-by step
@@ -152,7 +150,7 @@ module _ (s : Setup) (rows : List ℕ) (n from to : ℕ) where
         go true true o y q w = absurd (z q)
         go true false o y q w =
             let c : e ≡ k + 2 = omega arith in
-            record { further = omega arith; within = omega (arith, not-the-end y); goes = λ l x. rw c (w l x) }
+            record { further = omega arith; within = omega (arith, further-on y); goes = λ l x. rw c (w l x) }
         go false y o _ q w = record { further = omega (arith, o refl, r .at); within = omega (arith, r .most); goes = λ l x. rw q (w l x) }
 
     pub running-more : (e ≡ 0 → ⊥) → SameLengths t t' → Running s rows n from to t₀ t' (k + 1) e (plus holds h)

@@ -1,15 +1,15 @@
--- The first row outside the limits, by the rows before a place and those from it on; so also with a row put in.
+-- The first row outside the limits, by the rows before a place and those from it on; so also of rows put together from others.
 use mathlib.Core.Path.{_≡_, refl, sym, ap, _∙_}
-use mathlib.Core.List.{List, [], _∷_}
+use mathlib.Core.List.{List, [], _∷_, _++_}
 use mathlib.Core.Bool.{Bool, true, false, cond}
 use Prim.Native.Nat.{ℕ, zero, suc, _+_, _-_, _*_, _≤_, _<_, zero-le}
-use native.Mathlib.Nat.{add-zero}
 use native.Mathlib.Omega.{arith}
 use lib.ListN.{length, take, drop, length-drop}
-use lib.Seq.{take-take, take-nil, take-all, drop-drop}
-use Rattle.lists.proofs.Places.{put-part, put-outside}
-use Rattle.score.specs.Rows.{rowWords, putRow}
-use Rattle.score.specs.Limits.{rowWithin, firstBad, limitRefusal}
+use lib.Seq.{length-take-le, take-take, take-nil, take-all, take-at, drop-at, drop-drop}
+use Rattle.lists.proofs.Shifts.{put-front-parts, insert-front, remove-front}
+use Rattle.score.specs.Rows.{rowWords, putRow, insertRow, removeRow}
+use Rattle.score.specs.Limits.{rowWithin, firstBad, badRefusal, limitRefusal}
+use Rattle.score.specs.Inner.{front, rowsFrom}
 
 first-bad-most : (n : ℕ) (rows : List ℕ) → firstBad n rows ≤ n
 unfolding firstBad
@@ -72,48 +72,70 @@ bad-after (suc a) m rows h =
     go true f h = omega (arith, f (omega arith))
     go false f h = absurd (omega arith)
 
--- ---- With a row put in the place of row k.
-module _ (rows row : List ℕ) (n k : ℕ) (five : length row ≡ rowWords) (h : k < n) (long : n * rowWords ≤ length rows) where
-  abbrev Found : ℕ → Type 0
-  Found x = x ≡ firstBad n (putRow rows k row)
+-- ---- The first k rows, and then others.
+module _ (rows others : List ℕ) (k m : ℕ) (fits : k * rowWords ≤ length rows) where
+  abbrev joined : List ℕ
+  joined = front rows k ++ others
 
-  fits : k * rowWords + rowWords ≤ length rows
-  fits = omega arith
+  front-long : length (front rows k) ≡ k * rowWords
+  front-long = length-take-le (k * rowWords) rows fits
 
-  split : n ≡ k + suc (n - (k + 1))
-  split = omega arith
+  before-same : firstBad k joined ≡ firstBad k rows
+  before-same = sym (bad-of-take k joined) ∙ ap (firstBad k) (take-at (front rows k) others (k * rowWords) front-long) ∙ bad-of-take k rows
 
-  front : firstBad k (putRow rows k row) ≡ firstBad k rows
-  front = sym (bad-of-take k (putRow rows k row)) ∙ ap (firstBad k) (put-outside rowWords k rows row fits five .before) ∙ bad-of-take k rows
+  pub joined-first : (b : ℕ) → b ≡ firstBad k rows → b < k → b ≡ firstBad (k + m) joined
+  joined-first b e h = e ∙ sym (bad-before k m joined (rw (before-same, sym e) h) ∙ before-same)
 
-  pub bad-first : (b : ℕ) → b ≡ firstBad k rows → b < k → Found b
-  bad-first b e h = e ∙ sym (ap (λ (m : ℕ). firstBad m (putRow rows k row)) split ∙ bad-before k (suc (n - (k + 1))) (putRow rows k row) (rw (front, sym e) h) ∙ front)
+  pub joined-later : (b : ℕ) → b ≡ firstBad k rows → k ≤ b → firstBad (k + m) joined ≡ k + firstBad m others
+  joined-later b e g =
+      bad-after k m joined (rw (before-same, sym e) g) ∙ ap (λ (x : List ℕ). k + firstBad m x) (drop-at (front rows k) others (k * rowWords) front-long)
 
-  -- The rows after row k, as they are lent to the search.
-  abbrev lent-after : List ℕ
-  lent-after = take (length rows - (k + 1) * rowWords) (drop ((k + 1) * rowWords) rows)
+-- The rows from row `next` on, as they are lent to the search.
+module _ (rows : List ℕ) (next rest : ℕ) (x : ℕ) (e : x ≡ firstBad rest (take (length rows - next * rowWords) (drop (next * rowWords) rows))) where
+  pub lent-bad : x ≡ firstBad rest (rowsFrom rows next rest)
+  lent-bad =
+      e
+      ∙ ap (firstBad rest) (take-all (length rows - next * rowWords) (drop (next * rowWords) rows) (rw length-drop (omega arith)))
+      ∙ sym (bad-of-take rest (drop (next * rowWords) rows))
 
-  after-is : (x : ℕ) → x ≡ firstBad (n - (k + 1)) lent-after → x ≡ firstBad (n - (k + 1)) (drop ((k + 1) * rowWords) rows)
-  after-is x e = e ∙ ap (firstBad (n - (k + 1))) (take-all (length rows - (k + 1) * rowWords) (drop ((k + 1) * rowWords) rows) (rw length-drop (omega arith)))
+  pub lent-few : x ≤ rest
+  lent-few = rw (sym e) at (first-bad-most rest (take (length rows - next * rowWords) (drop (next * rowWords) rows)))
 
-  pub later-few : (x : ℕ) → x ≡ firstBad (n - (k + 1)) lent-after → k + 1 + x ≤ n
-  later-few x e = omega (arith, first-bad-most (n - (k + 1)) lent-after)
+-- A row, and then others.
+module _ (row others : List ℕ) (five : length row ≡ rowWords) (m : ℕ) where
+  row-first : firstBad (1 + m) (row ++ others) ≡ cond (rowWithin row) (suc (firstBad m others)) 0
+  unfolding firstBad
+  row-first =
+      let q : 1 + m ≡ suc m = omega arith in
+      ap (λ (i : ℕ). firstBad i (row ++ others)) q ∙ rw (take-at row others rowWords five, drop-at row others rowWords five)
 
-  module _ (b : ℕ) (e : b ≡ firstBad k rows) (g : k ≤ b) where
-    behind : drop rowWords (drop (k * rowWords) (putRow rows k row)) ≡ drop ((k + 1) * rowWords) rows
-    behind =
-        let q : k * rowWords + rowWords ≡ (k + 1) * rowWords = omega arith in
-        drop-drop rowWords (k * rowWords) (putRow rows k row) ∙ rw q (put-outside rowWords k rows row fits five .behind)
+  pub row-bad : rowWithin row ≡ false → firstBad (1 + m) (row ++ others) ≡ 0
+  row-bad w = row-first ∙ rw w
 
-    from-here : firstBad n (putRow rows k row) ≡ k + cond (rowWithin row) (suc (firstBad (n - (k + 1)) (drop ((k + 1) * rowWords) rows))) 0
-    unfolding firstBad
-    from-here =
-        ap (λ (m : ℕ). firstBad m (putRow rows k row)) split
-        ∙ bad-after k (suc (n - (k + 1))) (putRow rows k row) (rw (front, sym e) g)
-        ∙ rw (put-part rowWords k rows row fits five, behind)
+  pub row-good : rowWithin row ≡ true → firstBad (1 + m) (row ++ others) ≡ 1 + firstBad m others
+  row-good w = row-first ∙ rw w (omega arith)
 
-    pub bad-here : rowWithin row ≡ false → Found k
-    bad-here w = sym (from-here ∙ rw w (add-zero k))
+-- ---- The resulting score of a call.
 
-    pub bad-later : rowWithin row ≡ true → (x : ℕ) → x ≡ firstBad (n - (k + 1)) lent-after → Found (k + 1 + x)
-    bad-later w x f = sym (from-here ∙ rw (w, sym (after-is x f)) (omega arith))
+-- The rows below the count are all that counts.
+limit-by : (n m b : ℕ) (rows others : List ℕ) → m ≡ n → take (n * rowWords) rows ≡ others → b ≡ firstBad m others → badRefusal b n ≡ limitRefusal n rows
+unfolding limitRefusal
+limit-by n m b rows others c q e =
+    ap (λ (x : ℕ). badRefusal x n) (e ∙ ap (λ (i : ℕ). firstBad i others) c ∙ ap (firstBad n) (sym q) ∙ bad-of-take n rows)
+
+module _ (rows : List ℕ) (n p b : ℕ) where
+  -- A row in the place of row p.
+  pub limit-with : p < n → n * rowWords ≤ length rows → (row : List ℕ) → length row ≡ rowWords
+      → b ≡ firstBad (p + (1 + (n - (p + 1)))) (front rows p ++ (row ++ rowsFrom rows (p + 1) (n - (p + 1))))
+      → badRefusal b n ≡ limitRefusal n (putRow rows p row)
+  limit-with h r row five e = limit-by n (p + (1 + (n - (p + 1)))) b (putRow rows p row) _ (omega arith) (put-front-parts rowWords rows p n row h r five) e
+
+  -- A row put in as row p.
+  pub limit-inserted : p ≤ n → (n + 1) * rowWords ≤ length rows → (row : List ℕ) → length row ≡ rowWords
+      → b ≡ firstBad (p + (1 + (n - p))) (front rows p ++ (row ++ rowsFrom rows p (n - p))) → badRefusal b (n + 1) ≡ limitRefusal (n + 1) (insertRow n rows p row)
+  limit-inserted h r row five e = limit-by (n + 1) (p + (1 + (n - p))) b (insertRow n rows p row) _ (omega arith) (insert-front rowWords rows p n row h r five) e
+
+  -- Row p taken out.
+  pub limit-removed : p < n → n * rowWords ≤ length rows → b ≡ firstBad (p + (n - (p + 1))) (front rows p ++ rowsFrom rows (p + 1) (n - (p + 1)))
+      → badRefusal b (n - 1) ≡ limitRefusal (n - 1) (removeRow n rows p)
+  limit-removed h r e = limit-by (n - 1) (p + (n - (p + 1))) b (removeRow n rows p) _ (omega arith) (remove-front rowWords rows p n h r) e

@@ -1,4 +1,4 @@
--- Document 01, "Calls and their numbers": the table's numbers, and a call's result.
+-- Document 01, "Calls and their numbers", and document 02: the table's numbers, and a call's result.
 use Prim.Native.Nat.{ℕ}
 use mathlib.Core.List.{List, [], _∷_}
 use Rattle.score.specs.declared.refusal.Refusal.{Refusal}
@@ -25,15 +25,15 @@ bankNumber = 4
 abbrev pub mapNumber : ℕ
 mapNumber = 5
 
--- "rows: words not a multiple of 5; rows 0 or above 4,096"
+-- "6 a count of 0 or above 4,096 or, outside the reader, fewer row words than 5 times it"
 abbrev pub rowsNumber : ℕ
 rowsNumber = 6
 
--- "take: out or aux not rows times frames, or kept not 13 times rows"
+-- "Number 7 now means too short": out or aux for rows times frames, or kept for 13 times rows
 abbrev pub takeNumber : ℕ
 takeNumber = 7
 
--- "position: edited row not below the row count"
+-- "position: edited row not below the row count"; "An insertion's position may equal the count; a higher one gives 8."
 abbrev pub positionNumber : ℕ
 positionNumber = 8
 
@@ -52,6 +52,10 @@ valueNumber = 11
 -- "space: lent row words fewer than 5 times rows"
 abbrev pub spaceNumber : ℕ
 spaceNumber = 12
+
+-- "13 full: an insertion with no spare place in some buffer"
+abbrev pub fullNumber : ℕ
+fullNumber = 13
 
 -- ---- a refusal
 

@@ -4,13 +4,13 @@ use mathlib.Core.Bool.{Bool}
 use mathlib.Core.List.{List, [], _∷_}
 use lib.ListN.{getD}
 use lib.Dec.{eqb}
-use Rattle.lists.specs.Lists.{part, put}
+use Rattle.lists.specs.Lists.{part, put, shiftUp, shiftDown}
 
 -- "A row is five words."
 abbrev pub rowWords : ℕ
 rowWords = 5
 
--- 6: "rows 0 or above 4,096"
+-- 6: "a count of 0 or above 4,096"
 abbrev pub mostRows : ℕ
 mostRows = 4096
 
@@ -41,6 +41,14 @@ rowAt rows i = part rowWords rows i
 -- "An edit replaces row k of the lent row words."
 abbrev pub putRow : List ℕ → ℕ → List ℕ → List ℕ
 putRow rows k row = put rows (k * rowWords) row
+
+-- "Inserting moves later rows .. up by one place": of n rows those from place p on, where the new row then stands.
+abbrev pub insertRow : ℕ → List ℕ → ℕ → List ℕ → List ℕ
+insertRow n rows p row = putRow (shiftUp rowWords rows p n) p row
+
+-- "removing moves them down": of n rows those behind row p.
+abbrev pub removeRow : ℕ → List ℕ → ℕ → List ℕ
+removeRow n rows p = shiftDown rowWords rows p n
 
 -- "each row with restart 1"
 abbrev pub restarts : List ℕ → Bool

@@ -11,12 +11,14 @@ use crate::rows::TIMBRE;
 use crate::rows::row_at;
 ghost use mathlib.Core.Path.{_≡_};
 ghost use mathlib.Core.Bool.{cond};
-ghost use Prim.Native.Nat.{_*_, _<_, _≤_};
+ghost use mathlib.Core.List.{_++_};
+ghost use Prim.Native.Nat.{_+_, _-_, _*_, _<_, _≤_};
 ghost use lib.Dec.{eqb};
 ghost use lib.ListN.{length};
 ghost use lib.Ieee.{binary32, ofBits};
-ghost use Rattle.score.specs.Rows.{rowWords, putRow};
+ghost use Rattle.score.specs.Rows.{rowWords, putRow, insertRow, removeRow};
 ghost use Rattle.score.specs.Limits.{floatTo, rowWithin, firstBad, badRefusal, limitRefusal};
+ghost use Rattle.score.specs.Inner.{front, rowsFrom};
 
 // The word of 120.
 const NOTE_HIGH: u32 = 0x42f00000;
@@ -65,10 +67,10 @@ fn first_bad(rows: &[u32], count: usize) -> usize
     r
 }
 
-// The same with a row's words in the place of row k.
-fn first_bad_with(rows: &[u32], count: usize, k: usize, row: [u32; ROW_WORDS]) -> usize
-    requires { ⌜ (k < count) × (count * rowWords ≤ length (now rows)) ⌝ }
-    ensures { λ r. ⌜ r ≡ firstBad count (putRow (now (rows .entry)) k row) ⌝ }
+// The same of the first k rows, then a row, then `rest` rows from row `next` on.
+fn first_bad_with(rows: &[u32], k: usize, row: [u32; ROW_WORDS], next: usize, rest: usize) -> usize
+    requires { ⌜ (k * rowWords ≤ length (now rows)) × ((next + rest) * rowWords ≤ length (now rows)) ⌝ }
+    ensures { λ r. ⌜ r ≡ firstBad (k + (1 + rest)) (front (now (rows .entry)) k ++ (row ++ rowsFrom (now (rows .entry)) next rest)) ⌝ }
 {
     let before = first_bad(rows, k);
     if before < k {
@@ -77,9 +79,21 @@ fn first_bad_with(rows: &[u32], count: usize, k: usize, row: [u32; ROW_WORDS]) -
     if !row_within(row) {
         return k;
     }
-    let next = k + 1;
-    let after = next * ROW_WORDS;
-    next + first_bad(&rows[after..], count - next)
+    let a = next * ROW_WORDS;
+    k + (1 + first_bad(&rows[a..], rest))
+}
+
+// The same of the first k rows, then `rest` rows from row `next` on.
+fn first_bad_without(rows: &[u32], k: usize, next: usize, rest: usize) -> usize
+    requires { ⌜ (k * rowWords ≤ length (now rows)) × ((next + rest) * rowWords ≤ length (now rows)) ⌝ }
+    ensures { λ r. ⌜ r ≡ firstBad (k + rest) (front (now (rows .entry)) k ++ rowsFrom (now (rows .entry)) next rest) ⌝ }
+{
+    let before = first_bad(rows, k);
+    if before < k {
+        return before;
+    }
+    let a = next * ROW_WORDS;
+    k + first_bad(&rows[a..], rest)
 }
 
 // The refusal for the first of `count` rows that is outside the limits, where one is.
@@ -109,5 +123,28 @@ pub fn limit_refusal_with(rows: &[u32], count: usize, k: usize, row: [u32; ROW_W
     requires { ⌜ (k < count) × (count * rowWords ≤ length (now rows)) ⌝ }
     ensures { λ r. ⌜ r ≡ limitRefusal count (putRow (now (rows .entry)) k row) ⌝ }
 {
-    refusal_at(first_bad_with(rows, count, k, row), count)
+    let next = k + 1;
+    refusal_at(first_bad_with(rows, k, row, next, count - next), count)
+}
+
+// The same with a row's words put in as row p.
+pub fn limit_refusal_inserted(
+    rows: &[u32],
+    count: usize,
+    p: usize,
+    row: [u32; ROW_WORDS],
+) -> Refusal
+    requires { ⌜ (p ≤ count) × ((count + 1) * rowWords ≤ length (now rows)) ⌝ }
+    ensures { λ r. ⌜ r ≡ limitRefusal (count + 1) (insertRow count (now (rows .entry)) p row) ⌝ }
+{
+    refusal_at(first_bad_with(rows, p, row, p, count - p), count + 1)
+}
+
+// The same with row p taken out.
+pub fn limit_refusal_removed(rows: &[u32], count: usize, p: usize) -> Refusal
+    requires { ⌜ (p < count) × (count * rowWords ≤ length (now rows)) ⌝ }
+    ensures { λ r. ⌜ r ≡ limitRefusal (count - 1) (removeRow count (now (rows .entry)) p) ⌝ }
+{
+    let next = p + 1;
+    refusal_at(first_bad_without(rows, p, next, count - next), count - 1)
 }

@@ -2,7 +2,7 @@
 ghost use mathlib.Core.Path.{_≡_};
 ghost use Rattle.score.specs.Numbers.{accepted};
 
-// Not 0 wavetable, 1 terrain, 2 terrain with map.
+// Not 0 wavetable, 1 terrain, 2 terrain with map, 3 plain oscillator.
 pub const INSTRUMENT: u32 = 1;
 
 // Outside 32,000 to 192,000 Hz.
@@ -17,13 +17,13 @@ pub const BANK: u32 = 4;
 // A map's length is not the instrument's.
 pub const MAP: u32 = 5;
 
-// Words not a multiple of 5; rows 0 or above 4,096.
+// A count of 0 or above 4,096, or fewer row words than 5 times it.
 pub const ROWS: u32 = 6;
 
-// A take's lengths are not those of the rows.
+// A take is too short for the rows.
 pub const TAKE: u32 = 7;
 
-// The edited row is not below the row count.
+// The edited or removed row is not below the row count; or an insertion is above it.
 pub const POSITION: u32 = 8;
 
 // A word outside its name's limit.
@@ -37,6 +37,9 @@ pub const VALUE: u32 = 11;
 
 // Fewer lent words than the rows need.
 pub const SPACE: u32 = 12;
+
+// An insertion with no spare place in some buffer.
+pub const FULL: u32 = 13;
 
 // The number and the place of a refusal; number 0 where nothing is refused.
 pub struct Refusal {

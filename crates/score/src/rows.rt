@@ -1,11 +1,13 @@
 // A score's rows: words one row after the other.
 use lists::copy_words;
 use lists::same_words;
+use lists::shift_down;
+use lists::shift_up;
 ghost use mathlib.Core.Path.{_≡_};
-ghost use Prim.Native.Nat.{_+_, _*_, _≤_};
+ghost use Prim.Native.Nat.{_+_, _*_, _≤_, _<_};
 ghost use lib.ListN.{length};
 ghost use Rattle.lists.specs.Lists.{same};
-ghost use Rattle.score.specs.Rows.{rowWords, rowAt, putRow, restarts};
+ghost use Rattle.score.specs.Rows.{rowWords, rowAt, putRow, insertRow, removeRow, restarts};
 
 // A row's words.
 pub const ROW_WORDS: usize = 5;
@@ -41,6 +43,23 @@ pub fn put_row(rows: &mut [u32], k: usize, row: [u32; ROW_WORDS])
     let a = k * ROW_WORDS;
     let e = a + ROW_WORDS;
     copy_words(&row, &mut rows[a..e]);
+}
+
+// A row's words put between n rows, in place p: the rows from there on move up.
+pub fn insert_row(rows: &mut [u32], n: usize, p: usize, row: [u32; ROW_WORDS])
+    requires { ⌜ (p ≤ n) × ((n + 1) * rowWords ≤ length (now rows)) ⌝ }
+    ensures { λ _. ⌜ now (rows .exit) ≡ insertRow n (now (rows .entry)) p row ⌝ }
+{
+    shift_up(rows, ROW_WORDS, p, n);
+    put_row(rows, p, row);
+}
+
+// Row p of n rows taken out: the rows behind it move down.
+pub fn remove_row(rows: &mut [u32], n: usize, p: usize)
+    requires { ⌜ (p < n) × (n * rowWords ≤ length (now rows)) ⌝ }
+    ensures { λ _. ⌜ now (rows .exit) ≡ removeRow n (now (rows .entry)) p ⌝ }
+{
+    shift_down(rows, ROW_WORDS, p, n);
 }
 
 // Whether row k has these words.

@@ -1,15 +1,16 @@
--- Document 01, "Calls and their numbers": what whole rendering and an edit of a row answer, and what they leave in each lent buffer, as
--- functions on lists of words.
-use Prim.Native.Nat.{ℕ, _+_}
+-- Document 01, "Calls and their numbers", and document 02: what whole rendering, an edit, an insertion and a removal answer, and what they leave in
+-- each lent buffer, as functions on lists of words.
+use Prim.Native.Nat.{ℕ, _+_, _-_}
 use mathlib.Core.List.{List, [], _∷_}
-use mathlib.Core.Bool.{cond}
+use mathlib.Core.Bool.{Bool, false, cond}
 use lib.Dec.{eqb}
 use Rattle.lists.specs.Lists.{same}
-use Rattle.score.specs.Rows.{rowAt, putRow}
+use Rattle.score.specs.Rows.{rowAt, removeRow}
 use Rattle.score.specs.Numbers.{Result, done, refused}
 use Rattle.score.specs.declared.refusal.Refusal.{Refusal}
-use Rattle.rows.specs.Rows.{Setup, Take, Run, idle, runOf}
-use Rattle.refusals.specs.Refusals.{rowCount, renderRefusal, editRefusal}
+use Rattle.rows.specs.Rows.{Setup, Take, freshStart, keptAt, wordsBefore, roomAt, closedAt, Run, idle, stopsOf, runOf}
+use Rattle.refusals.specs.Calls.{Call, render, edit, insert, remove, countAfter, rowsAfter, position}
+use Rattle.refusals.specs.Refusals.{refusalOf}
 use Rattle.take.specs.declared.Answer.{Answer}
 use Rattle.take.specs.declared.Answer.the-variants.{Done, Refused}
 
@@ -35,23 +36,41 @@ refusedBy r rows t = outcome (Refused r) rows t
 abbrev pub ran : List ℕ → Run → Outcome
 ran rows r = outcome (Done (r .report)) rows (r .left)
 
--- Whole rendering: the stretch of all rows.
-unfoldable pub renderOf : Setup → List ℕ → Take → Outcome
-renderOf s rows t =
-    let r = renderRefusal s rows t in
-    let n = rowCount rows in
-    cond (eqb (r .number) 0) (ran rows (runOf s rows n n 0 n t)) (refusedBy r rows t)
+-- ---- What an accepted call does, handed a count of n.
 
--- Row k gets new words: "If all five words are equal, nothing is written. Else k is rendered from the state kept after k - 1, and so are the
--- following rows", up to the stop: the stretch of row k alone.
-unfoldable pub retakeOf : Setup → List ℕ → ℕ → List ℕ → Take → Outcome
-retakeOf s rows k row t =
-    let n = rowCount rows in
-    let rows' = putRow rows k row in
-    cond (same (rowAt rows k) row) (ran rows (idle t)) (ran rows' (runOf s rows' n n k (k + 1) t))
+-- The take with its places moved, before anything is rendered.
+unfoldable pub movedBy : Setup → ℕ → Take → Call → Take
+movedBy s n t render = t
+movedBy s n t (edit k row) = t
+movedBy s n t (insert p row) = roomAt (s .frames) (freshStart s) n t p
+movedBy s n t (remove p) = closedAt (s .frames) n t p
 
--- An edit of row k.
-unfoldable pub editOf : Setup → List ℕ → ℕ → List ℕ → Take → Outcome
-editOf s rows k row t =
-    let r = editRefusal s rows k row t in
-    cond (eqb (r .number) 0) (retakeOf s rows k row t) (refusedBy r rows t)
+-- Rendering starts at the call's position, and whether to stop is first asked before this row: after all rows of a whole rendering; else after
+-- the one row from which "Rendering starts .. and stops as for an edit".
+unfoldable pub firstAsked : ℕ → Call → ℕ
+firstAsked n render = n
+firstAsked n (edit k row) = k + 1
+firstAsked n (insert p row) = p + 1
+firstAsked n (remove p) = p + 1
+
+-- Whether nothing is rendered. An edit: "If all five words are equal, nothing is written." A removal stops at once where the row now in the
+-- place, "measured against the state before [it] where [it] came from", does: these are the removed row's own kept words.
+unfoldable pub nothingToDo : Setup → ℕ → List ℕ → Take → Call → Bool
+nothingToDo s n rows t render = false
+nothingToDo s n rows t (edit k row) = same (rowAt rows k) row
+nothingToDo s n rows t (insert p row) = false
+nothingToDo s n rows t (remove p) = stopsOf (n - 1) (removeRow n rows p) p (same (keptAt (t .kept) p) (wordsBefore s (t .kept) p))
+
+unfoldable pub doneOf : Setup → ℕ → List ℕ → Take → Call → Outcome
+doneOf s n rows t c =
+    let n' = countAfter n c in
+    let rows' = rowsAfter n rows c in
+    let t' = movedBy s n t c in
+    ran rows' (cond (nothingToDo s n rows t c) (idle t') (runOf s rows' n' n' (position c) (firstAsked n c) t'))
+
+-- ---- A call.
+
+unfoldable pub callOf : Setup → ℕ → List ℕ → Take → Call → Outcome
+callOf s n rows t c =
+    let r = refusalOf s n rows t c in
+    cond (eqb (r .number) 0) (doneOf s n rows t c) (refusedBy r rows t)

@@ -7,8 +7,9 @@
 //! that is not inlined), and whole renderings alone are measured. These are two programs, since in one
 //! the second caller would spoil the first.
 //!
-//! The original has no reader and no edits. A user of it renders the whole score again, so edits and
-//! reading are set against its whole rendering of the same 4,096 rows.
+//! The original has no reader, and its rows cannot be edited, put in or taken out. A user of it renders
+//! the whole score again, so these calls are set against its whole rendering of the same 4,096 rows. A
+//! plain move of the words that a removal moves is measured beside them.
 
 use std::hint::black_box;
 use std::time::{Duration, Instant};
@@ -17,7 +18,9 @@ use driver::cases;
 use driver::original;
 use driver::random::Random;
 use model::score::NAMES;
-use wohketa_retake::{BANK, Instrument, MAP, Row, Setup, Take, edit, read_score, render};
+use wohketa_retake::{
+    BANK, Instrument, KEPT_WORDS, MAP, Refusal, Report, Row, Setup, Take, edit, insert, read_score, remove, render,
+};
 
 const INSTRUMENTS: std::ops::RangeInclusive<u32> = 0..=3;
 const ROWS: usize = 4_096;
@@ -26,6 +29,9 @@ const RATE: u32 = 48_000;
 const ROUNDS: usize = 61;
 /// After how many rows the measured edits of row 0 stop.
 const STOPS: [usize; 4] = [1, 16, 256, ROWS];
+/// Where rows are put in and taken out, so that a row behind is there to be rendered: near the end an
+/// insertion comes last, a removal last but one.
+const PLACES: [(&str, usize, usize); 3] = [("0", 0, 0), ("2048", 2_048, 2_048), ("end", ROWS - 1, ROWS - 2)];
 /// A kept word that no rendering leaves, so that an edit stops at a restart alone.
 const NEVER_KEPT: u32 = 0x7fc0_0001;
 
@@ -77,7 +83,7 @@ impl<'a> Bench<'a> {
         let (setup, rows) = (self.setup(), self.rows);
         let mut take = Take::new(ROWS, FRAMES);
         let name = format!("render {} {bank} bank", self.number);
-        self.measure(&name, |_| timed(|| render(&setup, rows, &mut take)));
+        self.measure(&name, |_| timed(|| render(&setup, rows, ROWS, &mut take)));
         let equal = |words: &[u32], samples: &[f32]| words.iter().zip(samples).all(|(w, x)| *w == x.to_bits());
         assert!(equal(&take.out, &self.out) && equal(&take.aux, &self.aux), "different samples: {name}");
     }
@@ -85,18 +91,51 @@ impl<'a> Bench<'a> {
     /// Edits of row 0 that stop at a restart in row `stop`, or at the end.
     fn edits(&mut self, stop: usize) {
         let setup = self.setup();
-        let mut rows = self.rows.to_vec();
-        for (k, row) in rows.chunks_mut(Row::WORDS).enumerate() {
-            row[4] = u32::from(k == stop);
-        }
+        let mut rows = restarting_at(self.rows, stop);
         let mut take = Take::new(ROWS, FRAMES);
         self.measure(&format!("edit {} stops after {stop}", self.number), |round| {
             take.kept.fill(NEVER_KEPT);
-            let row = Row { note: 60.0, timbre: [0.25, 0.75][round % 2], morph: 0.5, harmonics: 0.5, restart: false };
-            let mut rendered = 0;
-            let time = timed(|| rendered = edit(&setup, &mut rows, 0, row, &mut take).map_or(0, |report| report.rows));
-            assert_eq!(rendered, stop);
-            time
+            let row = row([0.25, 0.75][round % 2]);
+            rendering(stop, || edit(&setup, &mut rows, ROWS, 0, row, &mut take))
+        });
+    }
+
+    /// Insertions into 4,095 rows and removals from 4,096. Each renders one row and stops at a restart; no two
+    /// places keep the same words, so the row behind a removal does not stop at once.
+    fn splices(&mut self, place: &str, put_in: usize, taken_out: usize) {
+        let (setup, score) = (self.setup(), self.rows);
+        let mut take = Take::new(ROWS, FRAMES);
+        self.measure(&format!("insert {} at {place}", self.number), |_| {
+            let mut rows = restarting_at(score, put_in);
+            keep_different(&mut take.kept);
+            rendering(1, || insert(&setup, &mut rows, ROWS - 1, put_in, row(0.25), &mut take))
+        });
+        self.measure(&format!("remove {} at {place}", self.number), |_| {
+            let mut rows = restarting_at(score, taken_out + 2);
+            keep_different(&mut take.kept);
+            rendering(1, || remove(&setup, &mut rows, ROWS, taken_out, &mut take))
+        });
+    }
+
+    /// A plain move of the words that a removal moves.
+    fn moves(&mut self, place: &str, taken_out: usize) {
+        let score = self.rows;
+        let mut take = Take::new(ROWS, FRAMES);
+        let frames = FRAMES as usize;
+        self.measure(&format!("move {place}"), |_| {
+            let mut rows = score.to_vec();
+            keep_different(&mut take.kept);
+            let buffers = [
+                (&mut rows, Row::WORDS),
+                (&mut take.out, frames),
+                (&mut take.aux, frames),
+                (&mut take.kept, KEPT_WORDS),
+            ];
+            timed(|| {
+                for (words, each) in buffers {
+                    black_box(words).copy_within((taken_out + 1) * each..ROWS * each, taken_out * each);
+                }
+            })
         });
     }
 
@@ -107,6 +146,33 @@ impl<'a> Bench<'a> {
         self.measure("read", |_| timed(|| read_score(&text, &mut rows)));
         assert_eq!(rows, self.rows);
     }
+}
+
+/// A row that is put into the score.
+fn row(timbre: f32) -> Row {
+    Row { note: 60.0, timbre, morph: 0.5, harmonics: 0.5, restart: false }
+}
+
+/// A score of which one row restarts, if there is such a row.
+fn restarting_at(rows: &[u32], stop: usize) -> Vec<u32> {
+    let mut rows = rows.to_vec();
+    for (k, row) in rows.chunks_mut(Row::WORDS).enumerate() {
+        row[4] = u32::from(k == stop);
+    }
+    rows
+}
+
+/// Keeps words after each row that are kept after no other.
+fn keep_different(kept: &mut [u32]) {
+    kept.iter_mut().zip(0x3f00_0000..).for_each(|(word, own)| *word = own);
+}
+
+/// The time of a call that renders so many rows.
+fn rendering(rows: usize, call: impl FnOnce() -> Result<Report, Refusal>) -> Duration {
+    let mut report = None;
+    let time = timed(|| report = call().ok());
+    assert_eq!(report.map(|report| report.rows), Some(rows));
+    time
 }
 
 fn timed<T>(call: impl FnOnce() -> T) -> Duration {
@@ -146,6 +212,14 @@ fn main() {
         for stop in STOPS {
             Bench::new(number, &published, &map, &rows).edits(stop);
         }
+    }
+    for number in INSTRUMENTS {
+        for (place, put_in, taken_out) in PLACES {
+            Bench::new(number, &published, &map, &rows).splices(place, put_in, taken_out);
+        }
+    }
+    for (place, _, taken_out) in PLACES {
+        Bench::new(0, &published, &map, &rows).moves(place, taken_out);
     }
     Bench::new(0, &published, &map, &rows).reads();
 }

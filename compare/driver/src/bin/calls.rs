@@ -2,8 +2,9 @@
 //!
 //!     calls > crates/c_calls/stdout
 
+use driver::changes;
 use model::score::read_score;
-use model::take::{edit, render};
+use model::take::{Change, change, render};
 use model::{Answer, BANK, MAP, ROW_WORDS, Setup, Take};
 
 const FRAMES: u32 = 4;
@@ -14,6 +15,9 @@ const SCORE: &str = "harmonics restart note morph timbre\n\
 const BEYOND: &str = "note timbre morph harmonics restart\n\
                       42700000 00000000 3f000000 3f800000 00000000\n\
                       42700000 00000000 3f000000 3f800000 00000002\n";
+
+/// The row that is put in.
+const PUT_IN: [u32; ROW_WORDS] = [0x4230_0000, 0x3e80_0000, 0x3f20_0000, 0x3f60_0000, 0];
 
 /// The number that a C function returns, and what it writes to `first` and `second`.
 fn print_values(call: &str, answer: Answer) {
@@ -34,34 +38,42 @@ fn print_take(take: &Take) {
     print_words("kept", &take.kept);
 }
 
-/// The score rendered and then edited: an accepted edit, one past the end, one outside a limit.
-fn play(setup: &Setup, score: &[u32], row: [u32; ROW_WORDS]) {
-    let mut rows = score.to_vec();
-    let mut take = Take { out: vec![1; 12], aux: vec![2; 12], kept: vec![3; 39] };
-    print_values("render", render(setup, &rows, &mut take));
+/// The score of three rows rendered and then changed, in buffers with room for a fourth: an accepted edit, one past the
+/// end, one outside a limit; an accepted insertion, and one with no room left; an accepted removal, and one past the end.
+fn play(setup: &Setup, lent: &[u32], row: [u32; ROW_WORDS]) {
+    let mut rows = lent.to_vec();
+    let mut take = Take { out: vec![1; 16], aux: vec![2; 16], kept: vec![3; 52] };
+    print_values("render", render(setup, &rows, 3, &mut take));
     print_take(&take);
     let mut loud = row;
     loud[3] = 0x3f80_0001;
-    for (position, row) in [(1, row), (5, row), (2, loud)] {
-        print_values("edit", edit(setup, &mut rows, position, row, &mut take));
+    for (count, call) in [
+        (3, Change::Edit(1, row)),
+        (3, Change::Edit(5, row)),
+        (3, Change::Edit(2, loud)),
+        (3, Change::Insert(1, PUT_IN)),
+        (4, Change::Insert(2, PUT_IN)),
+        (4, Change::Remove(0)),
+        (3, Change::Remove(3)),
+    ] {
+        print_values(changes::name(&call), change(setup, &mut rows, count, &call, &mut take));
         print_words("rows", &rows);
         print_take(&take);
     }
 }
 
 fn main() {
-    let mut rows = vec![u32::MAX; 16];
+    let mut rows = vec![u32::MAX; 20];
     for text in [SCORE, BEYOND] {
         print_values("read", read_score(text.as_bytes(), &mut rows));
         print_words("rows", &rows);
     }
-    let score = &rows[..3 * ROW_WORDS];
     let bank: Vec<i16> = (0..BANK).map(|i| (i * 7919 % 32749) as i16).collect();
     let map = vec![90; MAP];
     let wavetable = Setup { instrument: 0, rate: 48_000, frames: FRAMES, bank: &bank, map: &[] };
-    play(&wavetable, score, [0x4260_0000, 0x3f40_0000, 0x3e80_0000, 0x3f00_0000, 1]);
+    play(&wavetable, &rows, [0x4260_0000, 0x3f40_0000, 0x3e80_0000, 0x3f00_0000, 1]);
     let terrain = Setup { instrument: 2, rate: 44_100, frames: FRAMES, bank: &bank, map: &map };
-    play(&terrain, score, [0x4250_0000, 0x3f10_0000, 0x3ec0_0000, 0x3f70_0000, 0]);
+    play(&terrain, &rows, [0x4250_0000, 0x3f10_0000, 0x3ec0_0000, 0x3f70_0000, 0]);
     let oscillator = Setup { instrument: 3, rate: 96_000, frames: FRAMES, bank: &bank, map: &[] };
-    play(&oscillator, score, [0x4220_0000, 0x3e20_0000, 0x3f30_0000, 0x3ea0_0000, 0]);
+    play(&oscillator, &rows, [0x4220_0000, 0x3e20_0000, 0x3f30_0000, 0x3ea0_0000, 0]);
 }

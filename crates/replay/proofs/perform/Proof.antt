@@ -1,4 +1,4 @@
--- The edits start where the rows end, by what the caller shows of the score.
+-- The calls start where the rows end, by what the caller shows of the score.
 use native.Mathlib.Omega.{arith}
 use borrow.Author.Needs.{needs}
 use Rattle.replay.proofs.perform.Statement.{statement}
@@ -10,19 +10,19 @@ mul-from c = search needs
 add-from : tie.Need-add-from
 add-from c = search needs
 
-copy-words-requires : tie.Need-copy-words-requires
-copy-words-requires c κs = search needs
-
 render-one-requires : tie.Need-render-one-requires
 render-one-requires c κs = search needs
 
-edit-all-requires : tie.Need-edit-all-requires
-edit-all-requires c κs =
-    let rendered = c .before .before .before .before .before .before .before .before .before .before .before .before .before .before in
+call-all-requires : tie.Need-call-all-requires
+call-all-requires c κs =
+    let rendered = c .before .before .before .before .before .before .before .before .before .before in
     omega (arith, rendered .before .before .before .before .before .before .before .before .before .before .before .before .before .pre)
 
-print-edited-requires : tie.Need-print-edited-requires
-print-edited-requires c κs = search needs
+print-changed-requires : tie.Need-print-changed-requires
+print-changed-requires c κs =
+    let called = c .before .before .before .before .before .before .before .before .before .before .before in
+    let rendered = called .before .before .before .before .before .before .before .before .before .before .before in
+    omega (arith, called .call-all .ensures, rendered .before .before .before .before .before .before .before .before .before .before .before .before .before .pre)
 
 same-length : tie.Need-same-length
 same-length c = search needs
@@ -45,10 +45,9 @@ perform-spec =
     (tie.spec
     mul-from
     add-from
-    copy-words-requires
     render-one-requires
-    edit-all-requires
-    print-edited-requires
+    call-all-requires
+    print-changed-requires
     same-length
     same-length-2
     same-length-3

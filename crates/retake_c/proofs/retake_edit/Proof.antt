@@ -4,6 +4,9 @@ use Rattle.retake_c.proofs.Returning.{call-returns}
 use Rattle.retake_c.proofs.retake_edit.Statement.{statement}
 use Rattle.retake_c.proofs.retake_edit.Tie as tie
 
+settings-of-requires : tie.Need-settings-of-requires
+settings-of-requires c κs = search needs
+
 edit-requires : tie.Need-edit-requires
 edit-requires c κs = search needs
 
@@ -24,13 +27,14 @@ same-length-4 c = search needs
 
 returns : tie.Need-returns
 returns c =
-    let edit = c .before .before .before .before .before .before .before .before .before .edit in
-    call-returns _ _ _ _ _ _ _ (c .values-of .ensures) (edit .ensures)
+    let call = c .before .before .before .before .before .before .before .before .before in
+    call-returns _ _ _ _ _ _ _ (c .values-of .ensures) (rw (call .before .before .before .before .before .settings-of .ensures) at (call .edit .ensures))
 
 pub retake-edit-spec : {M : Type 1} → statement M
 retake-edit-spec =
     tie.close
     (tie.spec
+    settings-of-requires
     edit-requires
     values-of-requires
     same-length

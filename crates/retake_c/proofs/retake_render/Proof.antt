@@ -4,6 +4,9 @@ use Rattle.retake_c.proofs.Returning.{call-returns}
 use Rattle.retake_c.proofs.retake_render.Statement.{statement}
 use Rattle.retake_c.proofs.retake_render.Tie as tie
 
+settings-of-requires : tie.Need-settings-of-requires
+settings-of-requires c κs = search needs
+
 render-requires : tie.Need-render-requires
 render-requires c κs = search needs
 
@@ -21,10 +24,17 @@ same-length-3 c = search needs
 
 returns : tie.Need-returns
 returns c =
-    let render = c .before .before .before .before .before .before .before .render in
-    call-returns _ _ _ _ _ _ _ (c .values-of .ensures) (render .ensures)
+    let call = c .before .before .before .before .before .before .before in
+    call-returns _ _ _ _ _ _ _ (c .values-of .ensures) (rw (call .before .before .before .before .settings-of .ensures) at (call .render .ensures))
 
 pub retake-render-spec : {M : Type 1} → statement M
 retake-render-spec =
     tie.close
-    (tie.spec render-requires values-of-requires same-length same-length-2 same-length-3 returns)
+    (tie.spec
+    settings-of-requires
+    render-requires
+    values-of-requires
+    same-length
+    same-length-2
+    same-length-3
+    returns)

@@ -1,6 +1,6 @@
--- `edit` is `editOf`: refused, or a retake of its row.
-use Rattle.take.proofs.Calls.{edit-lent, edit-retakable, answers-edit-refused, edit-accepted, answers-edited}
-use Rattle.refusals.proofs.Accepted.{usable}
+-- `edit` is `callOf`: refused, or done.
+use Rattle.refusals.specs.Calls.{edit}
+use Rattle.take.proofs.Calls.{answers-refused, is-accepted, answers-done, edit-retakable}
 use borrow.Author.Needs.{needs}
 use Rattle.take.proofs.edit.Statement.{statement}
 use Rattle.take.proofs.edit.Tie as tie
@@ -22,13 +22,15 @@ same-length-4 c = search needs
 
 returns : tie.Need-returns
 returns c =
-    answers-edit-refused _ _ _ _ _ _ (c .before .before .edit-refusal .ensures) (c .if1 .taken)
+    let entry = c .before .before .before .before .before .before .before .before .before .before .before .before in
+    answers-refused _ _ _ _ (edit (entry .args .position) (entry .args .row)) _ (c .before .before .edit-refusal .ensures) (c .if1 .taken)
 
 retake-requires : tie.Need-retake-requires
 retake-requires c κs =
     let test = c .before .before .before .before in
-    let z = edit-accepted _ _ _ _ _ _ (test .before .before .edit-refusal .ensures) (test .if1 .left) in
-    (usable _ _ _ (edit-lent _ _ _ _ _ z) .tables, edit-retakable _ _ _ _ _ z)
+    let entry = test .before .before .before .before .before .before .before .before .before .before .before .before in
+    let a = is-accepted _ _ _ _ (edit (entry .args .position) (entry .args .row)) _ (test .before .before .edit-refusal .ensures) (test .if1 .left) in
+    (a .lent-right .tables, edit-retakable _ _ _ _ _ _ a)
 
 same-length-5 : tie.Need-same-length-5
 same-length-5 c = search needs
@@ -44,9 +46,10 @@ same-length-8 c = search needs
 
 returns-2 : tie.Need-returns-2
 returns-2 c =
-    let retaking = c .before .before .before .before .before .before .before .before in
-    let test = retaking .before .before .before .before .before in
-    answers-edited _ _ _ _ _ _ (test .before .before .edit-refusal .ensures) (test .if1 .left) _ _ _ (retaking .retake .ensures)
+    let done = c .before .before .before .before .before .before .before .before in
+    let test = done .before .before .before .before .before in
+    let entry = test .before .before .before .before .before .before .before .before .before .before .before .before in
+    answers-done _ _ _ _ (edit (entry .args .position) (entry .args .row)) _ (test .before .before .edit-refusal .ensures) (test .if1 .left) _ _ _ (done .retake .ensures)
 
 pub edit-spec : {M : Type 1} → statement M
 edit-spec =

@@ -1,8 +1,7 @@
--- `render` is `renderOf`, by its test and its run.
-use Rattle.take.proofs.Calls.{holding, render-lent, answers-render-refused, render-accepted, answers-rendered}
-use Rattle.refusals.proofs.Accepted.{usable}
+-- `render` is `callOf`, by its test and its run.
 use native.Mathlib.Nat.{le-refl}
-use mathlib.Core.Path.{refl}
+use Rattle.refusals.specs.Calls.{render}
+use Rattle.take.proofs.Calls.{answers-refused, is-accepted, answers-done, render-holding, render-does}
 use borrow.Author.Needs.{needs}
 use Rattle.take.proofs.render.Statement.{statement}
 use Rattle.take.proofs.render.Tie as tie
@@ -20,15 +19,14 @@ same-length-3 : tie.Need-same-length-3
 same-length-3 c = search needs
 
 returns : tie.Need-returns
-returns c =
-    answers-render-refused _ _ _ _ (c .before .before .render-refusal .ensures) (c .if1 .taken)
+returns c = answers-refused _ _ _ _ render _ (c .before .before .render-refusal .ensures) (c .if1 .taken)
 
 run-requires : tie.Need-run-requires
 run-requires c κs =
     let test = c .before .before .before in
-    let z = render-accepted _ _ _ _ (test .before .before .render-refusal .ensures) (test .if1 .left) in
-    let u = usable _ _ _ (render-lent _ _ _ z) in
-    (u .tables, (holding _ _ _ _ u refl, (u .fit .rows-some, le-refl _)))
+    let a = is-accepted _ _ _ _ render _ (test .before .before .render-refusal .ensures) (test .if1 .left) in
+    let h = render-holding _ _ _ _ a in
+    (a .lent-right .tables, (h .1, (h .0, le-refl _)))
 
 same-length-4 : tie.Need-same-length-4
 same-length-4 c = search needs
@@ -41,8 +39,9 @@ same-length-6 c = search needs
 
 returns-2 : tie.Need-returns-2
 returns-2 c =
-    let test = c .before .before .before .before .before .before .before .before .before .before in
-    answers-rendered _ _ _ _ (test .before .before .render-refusal .ensures) (test .if1 .left) _ _ (c .before .before .before .before .before .before .run .ensures)
+    let run = c .before .before .before .before .before .before in
+    let test = run .before .before .before .before in
+    answers-done _ _ _ _ render _ (test .before .before .render-refusal .ensures) (test .if1 .left) _ _ _ (render-does _ _ _ _ _ _ (run .run .ensures))
 
 pub render-spec : {M : Type 1} → statement M
 render-spec =

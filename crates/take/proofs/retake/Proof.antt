@@ -1,7 +1,7 @@
--- `retake` is `retakeOf`, by its test and its run.
-use Rattle.take.proofs.Calls.{retake-holding, retakes-unchanged, retakes-changed}
+-- `retake` is an accepted edit: nothing where the words are equal, else the row put in its place and its run.
+use mathlib.Core.Path.{refl, sym, _∙_}
 use native.Mathlib.Omega.{arith}
-use mathlib.Core.Path.{sym, _∙_}
+use Rattle.take.proofs.Calls.{holding-still, edit-idles, edit-does}
 use borrow.Author.Needs.{needs}
 use Rattle.take.proofs.retake.Statement.{statement}
 use Rattle.take.proofs.retake.Tie as tie
@@ -18,22 +18,21 @@ same-length c = search needs
 returns : tie.Need-returns
 returns c =
     let equal = c .before in
-    retakes-unchanged _ _ _ _ _ _ (sym (equal .before .same-row .ensures) ∙ equal .if1 .taken) (c .nothing .ensures)
+    let entry = equal .before .before .before .before .before .before .before .before in
+    edit-idles _ _ _ _ _ (entry .args .row) (search needs) _ (sym (equal .before .same-row .ensures) ∙ equal .if1 .taken) (c .nothing .ensures)
 
 put-row-requires : tie.Need-put-row-requires
 put-row-requires c κs = search needs
 
-add-next : tie.Need-add-next
-add-next c = search needs
+add-end : tie.Need-add-end
+add-end c = search needs
 
 run-requires : tie.Need-run-requires
 run-requires c κs =
     let put = c .before .before .before .before .before .before in
     let entry = put .before .before .before .before .before .before .before .before .before .before in
-    let row = entry .args .row in
     let pre = entry .pre in
-    let below = pre .1 .below in
-    (pre .0, (retake-holding _ _ _ _ (pre .1) row _ (search (needs, entry .good .1 .1 .1 .1 .1 .0)) (put .put-row .ensures), (omega arith, omega (arith, below))))
+    (pre .0, (holding-still _ _ _ _ _ _ (put .put-row .kept .0) refl refl refl (pre .1 .holding), (omega arith, omega (arith, pre .1 .below))))
 
 same-length-2 : tie.Need-same-length-2
 same-length-2 c = search needs
@@ -52,7 +51,7 @@ returns-2 c =
     let run = c .before .before .before .before .before .before in
     let put = run .before .before .before .before .before .before .before in
     let equal = put .before .before in
-    retakes-changed _ _ _ _ _ _ _ _ (sym (equal .before .same-row .ensures) ∙ equal .if1 .left) (put .put-row .ensures) (run .run .ensures)
+    edit-does _ _ _ _ _ _ _ _ _ (sym (equal .before .same-row .ensures) ∙ equal .if1 .left) (put .put-row .ensures) (run .run .ensures)
 
 pub retake-spec : {M : Type 1} → statement M
 retake-spec =
@@ -63,7 +62,7 @@ retake-spec =
     same-length
     returns
     put-row-requires
-    add-next
+    add-end
     run-requires
     same-length-2
     same-length-3

@@ -1,18 +1,21 @@
-//! The library's rendering and edit beside the model's: accepted and refused, on rendered and junk takes.
+//! The library's rendering, edits, insertions and removals beside the model's: accepted and refused, on
+//! rendered and junk takes, in buffers with and without room for more rows.
 
-use driver::cases::{self, Case};
+use driver::cases::{self, Case, Lent};
 use driver::random::Random;
-use driver::{library, original};
-use model::take::{self, Row, demand_3, fresh};
+use driver::{changes, library, original};
+use model::take::{self, Change, Row, demand_3, fresh};
+use model::voice::Voice;
 use model::{Answer, KEPT_WORDS, ROW_WORDS, Take};
 
 use crate::tally::{Tally, fail, same};
 
 /// The library's whole rendering into a lent take, beside the model's.
-pub fn rendering(case: &Case, lent: Take, tally: &mut Tally) {
-    let (mut found, mut expected) = (lent.clone(), lent);
-    let answer = take::render(&case.setup(), &case.rows, &mut expected);
-    same("answer of render", case, library::render(&case.setup(), &case.rows, &mut found), answer);
+pub fn rendering(case: &Case, lent: Lent, tally: &mut Tally) {
+    let (mut found, mut expected) = (lent.take.clone(), lent.take);
+    let answer = take::render(&case.setup(), &lent.rows, lent.count, &mut expected);
+    let rendered = library::render(&case.setup(), &lent.rows, lent.count, &mut found);
+    same(&format!("answer of render of {} rows", lent.count), case, rendered, answer);
     same_take("render", case, &found, &expected);
     match answer {
         Answer::Done(rows, held) => {
@@ -26,37 +29,54 @@ pub fn rendering(case: &Case, lent: Take, tally: &mut Tally) {
 }
 
 /// The library's whole rendering of a score, beside the fresh rendering that was held to the original.
-pub fn library_is_fresh(case: &Case, fresh: &[Row], mut lent: Take, tally: &mut Tally) {
+/// Places past the score keep their words.
+pub fn library_is_fresh(case: &Case, fresh: &[Row], mut lent: Lent, tally: &mut Tally) {
+    let mut expected = lent.take.clone();
+    begin(&mut expected.out, fresh.iter().flat_map(|r| r.block.out.clone()));
+    begin(&mut expected.aux, fresh.iter().flat_map(|r| r.block.aux.clone()));
+    begin(&mut expected.kept, fresh.iter().flat_map(|r| r.kept));
     let held = fresh.iter().map(|r| r.block.held).sum();
-    let answer = library::render(&case.setup(), &case.rows, &mut lent);
+    let answer = library::render(&case.setup(), &lent.rows, lent.count, &mut lent.take);
     same("answer of a fresh rendering", case, answer, Answer::Done(fresh.len() as u64, held));
-    let expected = Take {
-        out: fresh.iter().flat_map(|r| r.block.out.clone()).collect(),
-        aux: fresh.iter().flat_map(|r| r.block.aux.clone()).collect(),
-        kept: fresh.iter().flat_map(|r| r.kept).collect(),
-    };
-    same_take("fresh rendering", case, &lent, &expected);
-    tally.add("fresh: samples of the library, equal to the same (out and aux)", 2 * lent.out.len() as u64);
+    same_take("fresh rendering", case, &lent.take, &expected);
+    let samples = 2 * fresh.len() as u64 * u64::from(case.frames);
+    tally.add("fresh: samples of the library, equal to the same (out and aux)", samples);
+}
+
+/// Puts words at the beginning of others.
+fn begin(words: &mut [u32], with: impl Iterator<Item = u32>) {
+    words.iter_mut().zip(with).for_each(|(word, put)| *word = put);
 }
 
 /// The expected words are those that a take begins with.
 fn same_take(what: &str, case: &Case, found: &Take, expected: &Take) {
-    let pairs =
-        [("out", &found.out, &expected.out), ("aux", &found.aux, &expected.aux), ("kept", &found.kept, &expected.kept)];
-    for (name, found, expected) in pairs {
-        if let Some(at) = (0..expected.len()).find(|i| found[*i] != expected[*i]) {
-            fail(&format!("{what}: {name}[{at}] is {:08x}, expected {:08x}", found[at], expected[at]), case);
-        }
+    same_words(&format!("{what}: out"), case, &found.out, &expected.out);
+    same_words(&format!("{what}: aux"), case, &found.aux, &expected.aux);
+    same_words(&format!("{what}: kept"), case, &found.kept, &expected.kept);
+}
+
+fn same_words(what: &str, case: &Case, found: &[u32], expected: &[u32]) {
+    if let Some(at) = (0..expected.len()).find(|i| found[*i] != expected[*i]) {
+        fail(&format!("{what}[{at}] is {:08x}, expected {:08x}", found[at], expected[at]), case);
     }
 }
 
-/// An edit: often near the row that stands, sometimes out of its limits or place.
-fn random_edit(random: &mut Random, case: &Case) -> (u64, [u32; ROW_WORDS]) {
-    let count = case.count();
-    let position = if random.once_in(20) { random.pick(&[count, count + 1, usize::MAX]) } else { random.below(count) };
+/// An edit, an insertion or a removal: often at an end or near the rows that stand, sometimes out of its
+/// limits or place.
+fn random_change(random: &mut Random, score: &[u32]) -> Change {
+    let count = score.len() / ROW_WORDS;
+    let kind = random.below(3);
+    let places = if kind == 1 { count + 1 } else { count };
+    let position = match random.below(20) {
+        0 => random.pick(&[places, places + 1, usize::MAX]),
+        1..5 => 0,
+        5..9 => places - 1,
+        _ => random.below(places),
+    };
     let mut row = cases::row(random);
-    if position < count && !random.once_in(3) {
-        let standing: [u32; ROW_WORDS] = std::array::from_fn(|i| case.rows[position * ROW_WORDS + i]);
+    if position < places && !random.once_in(3) {
+        let beside = if kind == 1 { position.saturating_sub(random.below(2)) } else { position }.min(count - 1);
+        let standing: [u32; ROW_WORDS] = std::array::from_fn(|i| score[beside * ROW_WORDS + i]);
         let name = random.below(ROW_WORDS);
         let changed = match random.below(5) {
             0 => standing[name],
@@ -70,134 +90,163 @@ fn random_edit(random: &mut Random, case: &Case) -> (u64, [u32; ROW_WORDS]) {
     if random.once_in(30) {
         row[random.below(ROW_WORDS)] = cases::junk_word(random);
     }
-    (position as u64, row)
+    match kind {
+        0 => Change::Edit(position as u64, row),
+        1 => Change::Insert(position as u64, row),
+        _ => Change::Remove(position as u64),
+    }
 }
 
-/// One edit by the library and by the model, on the same words. The case takes over the row.
-fn one_edit(
-    case: &mut Case,
-    (position, row): (u64, [u32; ROW_WORDS]),
-    found: &mut Take,
-    expected: &mut Take,
-    tally: &mut Tally,
-) -> Answer {
-    let (mut rows, mut expected_rows) = (case.rows.clone(), case.rows.clone());
-    let answer = take::edit(&case.setup(), &mut expected_rows, position, row, expected);
-    let what = format!("edit of row {position} to {row:08x?}");
-    same(&what, case, library::edit(&case.setup(), &mut rows, position, row, found), answer);
-    same(&format!("{what}: rows"), case, &rows, &expected_rows);
-    same_take(&what, case, found, expected);
-    case.rows = rows;
+/// One change by the library and by the model, on the same words: answer and every lent word are the
+/// same. The caller counts: an accepted insertion is one row more, a removal one less.
+pub fn one_change(case: &Case, change: &Change, found: &mut Lent, expected: &mut Lent, tally: &mut Tally) -> Answer {
+    let setup = case.setup();
+    let what = format!("{change:08x?} of {} rows in {} row words", expected.count, expected.rows.len());
+    let answer = take::change(&setup, &mut expected.rows, expected.count, change, &mut expected.take);
+    same(&what, case, library::change(&setup, &mut found.rows, found.count, change, &mut found.take), answer);
+    same_words(&format!("{what}: rows"), case, &found.rows, &expected.rows);
+    same_take(&what, case, &found.take, &expected.take);
+    let name = changes::name(change);
     match answer {
         Answer::Done(rows, held) => {
-            let kind = match rows {
-                0 => "nothing changed",
-                1 => "1 row",
-                _ => "more rows",
-            };
-            tally.add(format!("edit: accepted, {kind}"), 1);
-            tally.add("edit: held", held);
+            for lent in [found, expected] {
+                lent.count = change.count(lent.count);
+            }
+            let rendered = ["no row", "1 row", "more rows"][rows.min(2) as usize];
+            let stop = changes::stop(change, expected.score(), rows);
+            tally.add(format!("{name}: accepted, {rendered}, stopped at {stop}"), 1);
+            tally.add(format!("{name}: held"), held);
         }
-        Answer::Refused(number, _) => tally.add(format!("edit: refused by {number:2}"), 1),
+        Answer::Refused(number, _) => tally.add(format!("{name}: refused by {number:2}"), 1),
     }
     answer
 }
 
-/// A list of edits after an accepted rendering: each answer and the take, word by word, beside the
-/// model; each answer beside demand 3; the end beside a fresh rendering.
-pub fn edits(mut case: Case, random: &mut Random, tally: &mut Tally) {
-    let mut expected = case.junk_take(random);
-    take::render(&case.setup(), &case.rows, &mut expected);
+/// One random call of a list; before it now and then one at its limits, on a copy.
+fn step(
+    case: &Case,
+    found: &mut Lent,
+    expected: &mut Lent,
+    random: &mut Random,
+    tally: &mut Tally,
+) -> (Change, Answer) {
+    if random.once_in(4) {
+        at_limits(case.clone(), found.clone(), random, tally);
+    }
+    let change = random_change(random, &case.rows);
+    let answer = one_change(case, &change, found, expected, tally);
+    (change, answer)
+}
+
+/// A list of calls after an accepted rendering: each answer and every lent word beside the model; each
+/// answer beside demand 3; the end beside a fresh rendering.
+pub fn lists(mut case: Case, random: &mut Random, tally: &mut Tally) {
+    let spare = random.pick(&[0, 1, 2, 6]);
+    let mut expected = case.lent(random, spare);
+    take::render(&case.setup(), &expected.rows, expected.count, &mut expected.take);
     let mut found = expected.clone();
     let mut before = fresh(&case.setup(), &case.rows);
-    for _ in 0..1 + random.below(6) {
-        let standing = case.rows.clone();
-        let edit = random_edit(random, &case);
-        let answer = one_edit(&mut case, edit, &mut found, &mut expected, tally);
-        if case.rows != standing {
+    for _ in 0..1 + random.below(8) {
+        let (change, answer) = step(&case, &mut found, &mut expected, random, tally);
+        if case.rows != expected.score() {
+            case.rows = expected.score().to_vec();
             let after = fresh(&case.setup(), &case.rows);
-            let promised = demand_3(&case.rows, &before, &after, edit.0 as usize);
-            same("an edit's answer and demand 3", &case, answer, promised);
+            let promised = demand_3(&case.setup(), &case.rows, &before, &after, &change);
+            same(&format!("answer of {change:08x?} and demand 3"), &case, answer, promised);
             before = after;
         }
     }
     let mut again = case.junk_take(random);
-    library::render(&case.setup(), &case.rows, &mut again);
-    same_take("fresh rendering after the edits", &case, &found, &again);
-    tally.add("edit: lists equal to a fresh rendering", 1);
-    edited_is_original(&case, &found, tally);
+    library::render(&case.setup(), &found.rows, found.count, &mut again);
+    same_take("fresh rendering after the list", &case, &found.take, &again);
+    tally.add("lists equal to a fresh rendering", 1);
+    list_is_original(&case, &found.take, tally);
 }
 
-/// The take after a list of edits beside the original's rendering of the score as it then stands, up to
+/// The take after a list of calls beside the original's rendering of the score as it then stands, up to
 /// the row in which the original panics.
-fn edited_is_original(case: &Case, found: &Take, tally: &mut Tally) {
+fn list_is_original(case: &Case, found: &Take, tally: &mut Tally) {
     let rows = original::render(case.setup(), &case.rows);
     let expected = Take {
         out: rows.iter().flat_map(|r| r.out.clone()).collect(),
         aux: rows.iter().flat_map(|r| r.aux.clone()).collect(),
         kept: rows.iter().flat_map(|r| r.kept).collect(),
     };
-    same_take("the take after the edits and the original", case, found, &expected);
-    tally.add("edit: rows equal to the original after a list", rows.len() as u64);
+    same_take("the take after the list and the original", case, found, &expected);
+    tally.add("lists: rows equal to the original after the last call", rows.len() as u64);
 }
 
-/// Edits of a take with junk in it, word by word beside the model.
-pub fn junk_edits(mut case: Case, random: &mut Random, tally: &mut Tally) {
-    let mut expected = case.junk_take(random);
+/// A list of calls on a take with junk in it, every lent word beside the model.
+pub fn junk_lists(mut case: Case, random: &mut Random, tally: &mut Tally) {
+    let spare = random.pick(&[0, 1, 2, 6]);
+    let mut expected = case.lent(random, spare);
+    let places = expected.take.kept.len() / KEPT_WORDS;
     if random.once_in(2) {
         // A rendered take with some words changed: the stop by the same state then still occurs.
-        take::render(&case.setup(), &case.rows, &mut expected);
+        take::render(&case.setup(), &expected.rows, expected.count, &mut expected.take);
         for _ in 0..random.below(8) {
-            let at = random.below(expected.kept.len());
-            expected.kept[at] = cases::junk_word(random);
+            let at = random.below(expected.take.kept.len());
+            expected.take.kept[at] = cases::junk_word(random);
         }
     } else {
-        for kept in expected.kept.chunks_mut(KEPT_WORDS) {
-            kept.copy_from_slice(&cases::odd_state(random, case.instrument));
+        for k in 0..places {
+            let state = match random.below(6) {
+                0 => Voice::fresh(&case.setup()).kept(),
+                _ => cases::odd_state(random, case.instrument),
+            };
+            expected.take.kept[k * KEPT_WORDS..][..KEPT_WORDS].copy_from_slice(&state);
+        }
+    }
+    for k in 1..places {
+        // The state before a row and the one after it are the same.
+        if random.once_in(8) {
+            expected.take.kept.copy_within((k - 1) * KEPT_WORDS..k * KEPT_WORDS, k * KEPT_WORDS);
         }
     }
     let mut found = expected.clone();
-    for _ in 0..1 + random.below(4) {
-        let edit = random_edit(random, &case);
-        one_edit(&mut case, edit, &mut found, &mut expected, tally);
+    for _ in 0..1 + random.below(6) {
+        step(&case, &mut found, &mut expected, random, tally);
+        case.rows = expected.score().to_vec();
     }
-    tally.add("edit: lists on junk takes", 1);
+    tally.add("lists on junk takes", 1);
 }
 
 /// Puts a few of a call's numbers and lengths at or beside their limits.
-fn spoil(case: &mut Case, take: &mut Take, random: &mut Random) {
+fn spoil(case: &mut Case, lent: &mut Lent, random: &mut Random) {
+    let (count, rows, frames) = (lent.count, lent.count as usize, case.frames as usize);
     for _ in 0..1 + random.below(3) {
-        match random.below(9) {
+        match random.below(11) {
             0 => case.instrument = random.pick(&[0, 1, 2, 3, 4, 256, u32::MAX]),
             1 => case.rate = random.pick(&[0, 31_999, 32_000, 192_000, 192_001, u32::MAX]),
             2 => case.frames = random.pick(&[0, 1, 128, 129, 256, u32::MAX]),
             3 => case.bank.resize(random.pick(&[0, 1, 25_343, 25_344, 25_345, 65_536]), 0),
             4 => case.map.resize(random.pick(&[0, 1, 4_095, 4_096, 4_097]), 0),
-            5 => {
-                let words = case.rows.len();
-                case.rows.resize(random.pick(&[0, 1, 4, words + 1, words + 4, words + 5, 20_480, 20_485]), 0);
+            5 => lent.count = random.pick(&[0, 1, count - 1, count + 1, (1 << 32) + count, u64::MAX / 5 + 2, u64::MAX]),
+            6 => {
+                lent.count = random.pick(&[4_095, 4_096, 4_097]);
+                lent.rows.resize(random.pick(&[20_475, 20_479, 20_480, 20_485]), 0);
             }
-            6 => resize(&mut take.out, random),
-            7 => resize(&mut take.aux, random),
-            _ => resize(&mut take.kept, random),
+            7 => resize(&mut lent.rows, rows * ROW_WORDS, ROW_WORDS, random),
+            8 => resize(&mut lent.take.out, rows * frames, frames, random),
+            9 => resize(&mut lent.take.aux, rows * frames, frames, random),
+            _ => resize(&mut lent.take.kept, rows * KEPT_WORDS, KEPT_WORDS, random),
         }
     }
 }
 
-fn resize(words: &mut Vec<u32>, random: &mut Random) {
-    let n = words.len();
-    words.resize(random.pick(&[0, n.saturating_sub(1), n + 1, 13, 26]), 7);
+/// Makes a buffer too short, or just long enough for `n` words, or for a place more, or not quite.
+fn resize(words: &mut Vec<u32>, n: usize, each: usize, random: &mut Random) {
+    words.resize(random.pick(&[0, 13, 26, n - 1, n, n + 1, n + each - 1, n + each]), 7);
 }
 
-/// Calls with numbers, lengths and words at their limits.
-pub fn refusals(mut case: Case, random: &mut Random, tally: &mut Tally) {
-    let mut expected = case.junk_take(random);
+/// A call with numbers, lengths and words at their limits.
+pub fn at_limits(mut case: Case, mut lent: Lent, random: &mut Random, tally: &mut Tally) {
     if !random.once_in(4) {
-        spoil(&mut case, &mut expected, random);
+        spoil(&mut case, &mut lent, random);
     }
     for _ in 0..random.below(3) {
-        if let Some(at) = random.below(case.rows.len() + 1).checked_sub(1) {
-            case.rows[at] = random.pick(&[
+        if let Some(at) = random.below(lent.rows.len() + 1).checked_sub(1) {
+            lent.rows[at] = random.pick(&[
                 0x3f80_0000,
                 0x3f80_0001,
                 0x42f0_0000,
@@ -211,12 +260,14 @@ pub fn refusals(mut case: Case, random: &mut Random, tally: &mut Tally) {
             ]);
         }
     }
-    if random.once_in(2) {
-        rendering(&case, expected, tally);
-        return;
-    }
-    let count = case.count();
-    let position = random.pick(&[0, count, count.wrapping_sub(1), count / 2, usize::MAX, 1 << 32]) as u64;
+    let count = lent.count;
+    let position = random.pick(&[0, count, count.wrapping_sub(1), count.wrapping_add(1), count / 2, 1 << 32, u64::MAX]);
     let row = if random.once_in(3) { std::array::from_fn(|_| cases::junk_word(random)) } else { cases::row(random) };
-    one_edit(&mut case, (position, row), &mut expected.clone(), &mut expected, tally);
+    let change = match random.below(4) {
+        0 => return rendering(&case, lent, tally),
+        1 => Change::Edit(position, row),
+        2 => Change::Insert(position, row),
+        _ => Change::Remove(position),
+    };
+    one_change(&case, &change, &mut lent.clone(), &mut lent, tally);
 }

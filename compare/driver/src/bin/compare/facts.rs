@@ -2,10 +2,12 @@
 
 use driver::cases::{self, Case};
 use driver::library;
+use driver::original::Original;
 use driver::random::Random;
-use model::{Answer, ROW_WORDS, floats, program, wavetable};
+use model::take::Change;
+use model::{Answer, KEPT_WORDS, ROW_WORDS, floats, program, wavetable};
 
-use crate::calls::rendering;
+use crate::calls::{one_change, rendering};
 use crate::tally::{Tally, same};
 use crate::voices::model_is_original;
 
@@ -55,14 +57,14 @@ pub fn facts(published: &[i16], random: &mut Random, tally: &mut Tally) {
     let rows = model_is_original(&case, tally);
     let held: Vec<u64> = rows.iter().map(|r| r.block.held).collect();
     same("held of the last rows", &case, &held[52..], &[0, 49]);
-    rendering(&case, case.junk_take(random), tally);
+    rendering(&case, case.lent(random, 0), tally);
 
     for (instrument, frames, held, rows) in smallest_holds() {
         let case = Case { rate: 32_000, ..plain(instrument, frames, rows) };
         let rows = model_is_original(&case, tally);
         let before: u64 = rows[..rows.len() - 1].iter().map(|r| r.block.held).sum();
         same("held before and in the last row", &case, [before, rows[rows.len() - 1].block.held], [0, held]);
-        rendering(&case, case.junk_take(random), tally);
+        rendering(&case, case.lent(random, 0), tally);
     }
 
     // The oscillator's waveform comes to 63 and stays there as long as the rows do.
@@ -71,29 +73,29 @@ pub fn facts(published: &[i16], random: &mut Random, tally: &mut Tally) {
     let rows = model_is_original(&case, tally);
     let held: Vec<u64> = rows.iter().map(|r| r.block.held).collect();
     same("held of a waveform that stays", &case, &held[..], &[0, 1, 100, 100, 100]);
-    rendering(&case, case.junk_take(random), tally);
+    rendering(&case, case.lent(random, 0), tally);
 
     // On a flat wave the oscillator's sample sinks to -0; out, which starts at zero, then has +0.
     let mut case = plain(3, 128, steady(20, [0x41c0_0000, 0, 0, 0, 0]));
     case.bank.fill(-1000);
     let rows = model_is_original(&case, tally);
     same("the last sample and lp", &case, [rows[19].block.out[127], rows[19].kept[4] >> 31], [0, 1]);
-    rendering(&case, case.junk_take(random), tally);
+    rendering(&case, case.lent(random, 0), tally);
 
     // The oscillator takes no map, and there is no instrument behind it.
     for (instrument, number) in [(3, 5), (4, 1)] {
         let mut case = plain(instrument, 24, steady(1, [0x4270_0000, 0, 0, 0, 0]));
         case.map = vec![128; model::MAP];
-        let answer = library::render(&case.setup(), &case.rows, &mut case.junk_take(random));
+        let answer = library::render(&case.setup(), &case.rows, 1, &mut case.junk_take(random));
         same("refusal of a map, of an instrument", &case, answer, Answer::Refused(number, 0));
-        rendering(&case, case.junk_take(random), tally);
+        rendering(&case, case.lent(random, 0), tally);
     }
 
     // The largest scores.
     for instrument in 0..4 {
         let case = plain(instrument, model::FRAMES, cases::usual_rows(random, model::ROWS, 1000));
         model_is_original(&case, tally);
-        rendering(&case, case.junk_take(random), tally);
+        rendering(&case, case.lent(random, 0), tally);
     }
 
     // Edits that the next row's state does not see.
@@ -112,9 +114,9 @@ pub fn facts(published: &[i16], random: &mut Random, tally: &mut Tally) {
     ] {
         let mut case = plain(instrument, 24, rows.clone());
         let mut take = case.junk_take(random);
-        library::render(&case.setup(), &rows.clone(), &mut take);
+        library::render(&case.setup(), rows, 9, &mut take);
         let mut rows = rows.clone();
-        let answer = library::edit(&case.setup(), &mut rows, position, row, &mut take);
+        let answer = library::change(&case.setup(), &mut rows, 9, &Change::Edit(position, row), &mut take);
         same("an edit that fades at once", &case, answer, Answer::Done(1, 0));
         case.rows = rows;
         model_is_original(&case, tally);
@@ -123,10 +125,12 @@ pub fn facts(published: &[i16], random: &mut Random, tally: &mut Tally) {
     // An edit that never fades: pre x sinks to a subnormal and stays there.
     let case = plain(0, 24, steady(4096, [0x4270_0000, 0, 0, 0, 0]));
     let mut take = case.junk_take(random);
-    library::render(&case.setup(), &case.rows, &mut take);
-    let changed = [0x4270_0000, 0x3f00_0000, 0, 0, 0];
-    let answer = library::edit(&case.setup(), &mut case.rows.clone(), 12, changed, &mut take);
+    library::render(&case.setup(), &case.rows, 4096, &mut take);
+    let edit = Change::Edit(12, [0x4270_0000, 0x3f00_0000, 0, 0, 0]);
+    let answer = library::change(&case.setup(), &mut case.rows.clone(), 4096, &edit, &mut take);
     same("an edit that never fades", &case, answer, Answer::Done(4084, 0));
+
+    splices(plain, random, tally);
 
     // Kept words can stay subnormal.
     let mut case = plain(0, 1, steady(600, [0x4270_0000, 0, 0, 0, 0]));
@@ -142,6 +146,68 @@ pub fn facts(published: &[i16], random: &mut Random, tally: &mut Tally) {
     same("folds", &case, [wavetable::fold(4), wavetable::fold(7)], [3, 0]);
 
     example(&case);
+}
+
+/// Insertions and removals with a known answer.
+fn splices(plain: impl Fn(u32, u32, Vec<u32>) -> Case, random: &mut Random, tally: &mut Tally) {
+    use Answer::{Done, Refused};
+    use Change::{Insert, Remove};
+    const FRAMES: usize = 24;
+    const ONE: [usize; 4] = [ROW_WORDS, FRAMES, FRAMES, KEPT_WORDS];
+    const NONE: [usize; 4] = [0; 4];
+    let row = [0x4270_0000, 0x3f00_0000, 0, 0, 0];
+    let start = [0x4270_0000, 0x3f00_0000, 0, 0, 1];
+    let loud = [0x4270_0000, 0x3f80_0001, 0, 0, 0];
+    let most = |n: usize| vec![row; n];
+    for instrument in 0..4 {
+        for (rows, spare, change, answer) in [
+            // Row 0 begins fresh whatever its word, and its word alone is a stop.
+            (vec![row, row], NONE, Remove(0), Done(1, 0)),
+            (vec![row, start], NONE, Remove(0), Done(0, 0)),
+            // The row that was row 0 had the fresh state before it.
+            (vec![row], ONE, Insert(0, row), Done(2, 0)),
+            (vec![start], ONE, Insert(0, row), Done(1, 0)),
+            // The same state stands before the row behind.
+            (vec![start, row, row], ONE, Insert(1, start), Done(1, 0)),
+            (vec![start, start, row], NONE, Remove(1), Done(0, 0)),
+            // The end.
+            (vec![row, row], ONE, Insert(2, row), Done(1, 0)),
+            (vec![row, row], NONE, Remove(1), Done(0, 0)),
+            // Too many rows or none come before the position and the room.
+            (most(4_095), ONE, Insert(4_095, row), Done(1, 0)),
+            (most(4_096), ONE, Insert(5_000, row), Refused(6, 0)),
+            (most(4_096), NONE, Remove(4_095), Done(0, 0)),
+            (vec![row], NONE, Remove(7), Refused(6, 0)),
+            // The position comes before the room, and the room before the limits.
+            (vec![row], NONE, Insert(2, row), Refused(8, 2)),
+            (vec![row], ONE, Insert(2, row), Refused(8, 2)),
+            (vec![row, row], NONE, Remove(2), Refused(8, 2)),
+            (vec![row], NONE, Insert(1, loud), Refused(13, 0)),
+            (vec![row], ONE.map(|each| each - 1), Insert(1, row), Refused(13, 0)),
+            (vec![row], [0, FRAMES, FRAMES, KEPT_WORDS], Insert(0, row), Refused(13, 0)),
+            (vec![row], [ROW_WORDS, 0, FRAMES, KEPT_WORDS], Insert(0, row), Refused(13, 0)),
+            (vec![row], [ROW_WORDS, FRAMES, 0, KEPT_WORDS], Insert(0, row), Refused(13, 0)),
+            (vec![row], [ROW_WORDS, FRAMES, FRAMES, 0], Insert(0, row), Refused(13, 0)),
+            // The limits are read in the resulting score.
+            (vec![row, loud], ONE, Insert(1, row), Refused(9, 2)),
+            (vec![row, loud], ONE, Insert(1, loud), Refused(9, 1)),
+            (vec![row, row, loud], NONE, Remove(0), Refused(9, 1)),
+            (vec![row, loud, start], NONE, Remove(1), Done(0, 0)),
+        ] {
+            let case = plain(instrument, FRAMES as u32, rows.concat());
+            let mut lent = case.lent_with(random, spare);
+            library::render(&case.setup(), &lent.rows, lent.count, &mut lent.take);
+            let found = one_change(&case, &change, &mut lent.clone(), &mut lent, tally);
+            same(&format!("{change:08x?} with {spare:?} spare words"), &case, found, answer);
+        }
+
+        // The state that a row behind row 0 had is the fresh one, which is now before it again.
+        let case = plain(instrument, FRAMES as u32, [row, row].concat());
+        let mut lent = case.lent_with(random, NONE);
+        lent.take.kept[..KEPT_WORDS].copy_from_slice(&Original::new(case.setup()).kept());
+        let found = one_change(&case, &Remove(0), &mut lent.clone(), &mut lent, tally);
+        same("a removal at the fresh state", &case, found, Done(0, 0));
+    }
 }
 
 /// Document 01's example of the program.

@@ -17,7 +17,7 @@ use driver::cases::Case;
 use driver::original;
 use driver::random::Random;
 
-use calls::{edits, junk_edits, library_is_fresh, refusals, rendering};
+use calls::{at_limits, junk_lists, library_is_fresh, lists, rendering};
 use tally::Tally;
 use texts::{programs, texts};
 use voices::{model_is_original, model_is_original_on_any_state};
@@ -36,7 +36,7 @@ fn main() {
     for _ in 0..1500 * scale {
         let case = Case::random(random, &published, 90);
         let fresh = model_is_original(&case, &mut tally);
-        library_is_fresh(&case, &fresh, case.junk_take(random), &mut tally);
+        library_is_fresh(&case, &fresh, case.lent(random, 0), &mut tally);
     }
     for _ in 0..20_000 * scale {
         let case = Case::random(random, &published, 1);
@@ -44,10 +44,16 @@ fn main() {
     }
     for _ in 0..1000 * scale {
         let case = Case::random(random, &published, 60);
-        rendering(&case, case.junk_take(random), &mut tally);
-        edits(Case::random(random, &published, 20), random, &mut tally);
-        junk_edits(Case::random(random, &published, 20), random, &mut tally);
-        refusals(Case::random(random, &published, 6), random, &mut tally);
+        rendering(&case, case.lent(random, 0), &mut tally);
+        lists(Case::random(random, &published, 20), random, &mut tally);
+        lists(Case::whole_periods(random, &published, 60), random, &mut tally);
+        junk_lists(Case::random(random, &published, 20), random, &mut tally);
+        for _ in 0..4 {
+            let case = Case::random(random, &published, 6);
+            let spare = random.below(2);
+            let lent = case.lent(random, spare);
+            at_limits(case, lent, random, &mut tally);
+        }
         for _ in 0..10 {
             texts(random, &mut tally);
         }

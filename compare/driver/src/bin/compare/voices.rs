@@ -11,6 +11,8 @@ use crate::tally::{Tally, fail, same};
 
 /// The model's fresh rendering beside the original, up to the first hold. There the original must panic.
 pub fn model_is_original(case: &Case, tally: &mut Tally) -> Vec<Row> {
+    let state = Voice::fresh(&case.setup()).kept();
+    same("fresh words of model and original", case, state, Original::new(case.setup()).kept());
     let rows = fresh(&case.setup(), &case.rows);
     let original = original::render(case.setup(), &case.rows);
     let agreeing = rows.iter().position(|r| r.block.holds.any()).unwrap_or(rows.len());

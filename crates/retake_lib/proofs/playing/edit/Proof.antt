@@ -16,50 +16,50 @@ mul-position c = search needs
 shared-slice-read-position : tie.Need-shared-slice-read-position
 shared-slice-read-position c = search needs
 
-add-t15 : tie.Need-add-t15
-add-t15 c = search needs
+add-t16 : tie.Need-add-t16
+add-t16 c = search needs
 
-mul-t18 : tie.Need-mul-t18
-mul-t18 c = search needs
+mul-t19 : tie.Need-mul-t19
+mul-t19 c = search needs
 
-shared-slice-read-t17 : tie.Need-shared-slice-read-t17
-shared-slice-read-t17 c = search needs
+shared-slice-read-t18 : tie.Need-shared-slice-read-t18
+shared-slice-read-t18 c = search needs
 
-add-t20 : tie.Need-add-t20
-add-t20 c = search needs
+add-t21 : tie.Need-add-t21
+add-t21 c = search needs
 
-mul-t21 : tie.Need-mul-t21
-mul-t21 c = search needs
+mul-t22 : tie.Need-mul-t22
+mul-t22 c = search needs
 
-shared-slice-read-t23 : tie.Need-shared-slice-read-t23
-shared-slice-read-t23 c = search needs
+shared-slice-read-t24 : tie.Need-shared-slice-read-t24
+shared-slice-read-t24 c = search needs
 
-add-t24 : tie.Need-add-t24
-add-t24 c = search needs
+add-t25 : tie.Need-add-t25
+add-t25 c = search needs
 
-mul-t25 : tie.Need-mul-t25
-mul-t25 c = search needs
+mul-t26 : tie.Need-mul-t26
+mul-t26 c = search needs
 
-shared-slice-read-t27 : tie.Need-shared-slice-read-t27
-shared-slice-read-t27 c = search needs
+shared-slice-read-t28 : tie.Need-shared-slice-read-t28
+shared-slice-read-t28 c = search needs
 
-add-t28 : tie.Need-add-t28
-add-t28 c = search needs
+add-t29 : tie.Need-add-t29
+add-t29 c = search needs
 
-mul-t29 : tie.Need-mul-t29
-mul-t29 c = search needs
+mul-t30 : tie.Need-mul-t30
+mul-t30 c = search needs
 
-shared-slice-read-t31 : tie.Need-shared-slice-read-t31
-shared-slice-read-t31 c = search needs
+shared-slice-read-t32 : tie.Need-shared-slice-read-t32
+shared-slice-read-t32 c = search needs
 
-add-t32 : tie.Need-add-t32
-add-t32 c = search needs
+add-t33 : tie.Need-add-t33
+add-t33 c = search needs
 
-mul-t33 : tie.Need-mul-t33
-mul-t33 c = search needs
+mul-t34 : tie.Need-mul-t34
+mul-t34 c = search needs
 
-shared-slice-read-t35 : tie.Need-shared-slice-read-t35
-shared-slice-read-t35 c = search needs
+shared-slice-read-t36 : tie.Need-shared-slice-read-t36
+shared-slice-read-t36 c = search needs
 
 slice-aggregate-edit : tie.Need-slice-aggregate-edit
 slice-aggregate-edit c = search needs
@@ -95,7 +95,7 @@ returns c =
     let line = c .before .before in
     let made = line .before .before .before .before .before .before .before .before .before .before in
     let args = made .before .before .before .before .before .before .before .before .before .before .before .before .before .before .before .before .before .before .args in
-    edit-done (args .edits .now) (args .k) _ _ _ _ _ _ _ _ _ _ (made .edit .ensures) (line .put-answer .ensures)
+    edit-done (args .edits .now) (args .k) _ _ _ _ _ _ _ _ _ _ _ (made .edit .ensures) (line .put-answer .ensures)
 
 pub edit-spec : {M : Type 1} → statement M
 edit-spec =
@@ -104,21 +104,21 @@ edit-spec =
     mul-a
     mul-position
     shared-slice-read-position
-    add-t15
-    mul-t18
-    shared-slice-read-t17
-    add-t20
-    mul-t21
-    shared-slice-read-t23
-    add-t24
-    mul-t25
-    shared-slice-read-t27
-    add-t28
-    mul-t29
-    shared-slice-read-t31
-    add-t32
-    mul-t33
-    shared-slice-read-t35
+    add-t16
+    mul-t19
+    shared-slice-read-t18
+    add-t21
+    mul-t22
+    shared-slice-read-t24
+    add-t25
+    mul-t26
+    shared-slice-read-t28
+    add-t29
+    mul-t30
+    shared-slice-read-t32
+    add-t33
+    mul-t34
+    shared-slice-read-t36
     slice-aggregate-edit
     cast-edit
     edit-requires

@@ -25,7 +25,7 @@ put-files-requires c κs =
     let room = rendered .before .before .before .before .before .before .before .before .before .before .before .before .before .before .pre in
     let more = edits .edit-all in
     let made = rendered .render in
-    (omega (arith, room .first-room, more .kept .1 .1 .1 .1 .0, made .kept .1 .1 .1 .1 .0), omega (arith, room .second-room, more .kept .1 .1 .1 .1 .1 .0, made .kept .1 .1 .1 .1 .1 .0))
+    (omega (arith, room .first-room, more .kept .1 .1 .1 .1 .1 .0, made .kept .1 .1 .1 .1 .1 .0), omega (arith, room .second-room, more .kept .1 .1 .1 .1 .1 .1 .0, made .kept .1 .1 .1 .1 .1 .1 .0))
 
 same-length : tie.Need-same-length
 same-length c = search needs
@@ -54,7 +54,7 @@ returns c =
     let edits = files .before .before .before .before .before .before .before .before .before .before .before .before .before .before .before in
     let heading = edits .before .before .before .before .before .before .before .before in
     let rendered = heading .before .before .before .before .before .before .before .before in
-    played-is _ _ _ _ (rendered .render .ensures) (heading .put-heading .ensures) (edits .edit-all .ensures) (files .put-files .ensures)
+    played-is _ _ _ _ _ (rendered .render .ensures) (heading .put-heading .ensures) (edits .edit-all .ensures) (files .put-files .ensures)
 
 pub play-words-spec : {M : Type 1} → statement M
 play-words-spec =

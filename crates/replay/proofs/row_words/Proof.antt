@@ -1,16 +1,15 @@
--- Each place of `words` is within it, and four bytes for each place end below the largest number.
+-- Each word has a place among the row words.
 use Prim.Native.Nat.{_-_, _≤_}
-use mathlib.Core.Path.{_≡_}
-use lib.ListN.{length}
 use borrow.Author.Needs.{needs}
-use Rattle.replay.proofs.copy_words.Statement.{statement}
-use Rattle.replay.proofs.copy_words.Tie as tie
+use Rattle.replay.proofs.row_words.Statement.{statement}
+use Rattle.replay.proofs.row_words.Tie as tie
 
 abbrev Inv-loop : tie.InvT-loop
-Inv-loop file at words₀ i₀ words i = (i ≤ length words₀) × (length words ≡ length words₀)
+Inv-loop file at n words₀ i₀ words i =
+    i ≤ n
 
 abbrev μ-loop : tie.MeasureT-loop
-μ-loop file at words₀ i₀ words i = length words₀ - i
+μ-loop file at n words₀ i₀ words i = n - i
 
 loop-holds : tie.Need-loop-holds Inv-loop μ-loop
 loop-holds c = search needs
@@ -27,8 +26,8 @@ word-requires c κs = search needs
 mul-words : tie.Need-mul-words Inv-loop μ-loop
 mul-words c = search needs
 
-slice-write-words : tie.Need-slice-write-words Inv-loop μ-loop
-slice-write-words c = search needs
+array-write-words : tie.Need-array-write-words Inv-loop μ-loop
+array-write-words c = search needs
 
 add-i : tie.Need-add-i Inv-loop μ-loop
 add-i c = search needs
@@ -39,14 +38,11 @@ loop-less c = search needs
 loop-again : tie.Need-loop-again Inv-loop μ-loop
 loop-again c = search needs
 
-same-length : tie.Need-same-length Inv-loop μ-loop
-same-length c = search needs
-
 returns : tie.Need-returns Inv-loop μ-loop
 returns c = search needs
 
-pub copy-words-spec : {M : Type 1} → statement M
-copy-words-spec =
+pub row-words-spec : {M : Type 1} → statement M
+row-words-spec =
     tie.close
     (tie.spec
     Inv-loop
@@ -56,9 +52,8 @@ copy-words-spec =
     add-word
     word-requires
     mul-words
-    slice-write-words
+    array-write-words
     add-i
     loop-less
     loop-again
-    same-length
     returns)

@@ -1,17 +1,16 @@
--- `same` ends and reads within both runs, which are of one length.
+-- It ends, and reads within both runs, which are of one length.
 use Prim.Native.Nat.{_-_, _≤_}
 use lib.ListN.{length}
 use borrow.Author.Needs.{needs}
-use Rattle.edited_takes.proofs.same.Statement.{statement}
-use Rattle.edited_takes.proofs.same.Tie as tie
+use Rattle.edited_takes.proofs.calls.same.Statement.{statement}
+use Rattle.edited_takes.proofs.calls.same.Tie as tie
 
 abbrev Inv-loop : tie.InvT-loop
 Inv-loop a b i₀ i =
     i ≤ length a
 
 abbrev μ-loop : tie.MeasureT-loop
-μ-loop a b i₀ i =
-    length a - i
+μ-loop a b i₀ i = length a - i
 
 returns : tie.Need-returns Inv-loop μ-loop
 returns c = search needs

@@ -1,0 +1,44 @@
+-- `retake_c::retake_insert` meets its contract: the insertion's outcome, its answer written out.
+use borrow.Author.Needs.{needs}
+use Rattle.retake_c.proofs.Returning.{call-returns}
+use Rattle.retake_c.proofs.retake_insert.Statement.{statement}
+use Rattle.retake_c.proofs.retake_insert.Tie as tie
+
+settings-of-requires : tie.Need-settings-of-requires
+settings-of-requires c κs = search needs
+
+insert-requires : tie.Need-insert-requires
+insert-requires c κs = search needs
+
+values-of-requires : tie.Need-values-of-requires
+values-of-requires c κs = search needs
+
+same-length : tie.Need-same-length
+same-length c = search needs
+
+same-length-2 : tie.Need-same-length-2
+same-length-2 c = search needs
+
+same-length-3 : tie.Need-same-length-3
+same-length-3 c = search needs
+
+same-length-4 : tie.Need-same-length-4
+same-length-4 c = search needs
+
+returns : tie.Need-returns
+returns c =
+    let call = c .before .before .before .before .before .before .before .before .before in
+    call-returns _ _ _ _ _ _ _ (c .values-of .ensures) (rw (call .before .before .before .before .before .settings-of .ensures) at (call .insert .ensures))
+
+pub retake-insert-spec : {M : Type 1} → statement M
+retake-insert-spec =
+    tie.close
+    (tie.spec
+    settings-of-requires
+    insert-requires
+    values-of-requires
+    same-length
+    same-length-2
+    same-length-3
+    same-length-4
+    returns)
