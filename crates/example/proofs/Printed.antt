@@ -29,7 +29,7 @@ use Rattle.reader.specs.Reading.{outcome, testLines, testText, textRows, countN
 use Rattle.rows.specs.Rows.{parametersOf, startOf, rowFrom, rowBy, beforeRow, both, stopsOf, runOf, Setup, Take, Run, idle}
 use Rattle.refusals.specs.Calls.{Call, render, edit, countAfter, rowsAfter, position, leastCount, largestCount}
 use Rattle.refusals.specs.Refusals.{settingsNumber, lengthsNumber, lentNumber, wrongPosition, full, scoreRefusal, refusalOf}
-use Rattle.take.specs.Take.{Outcome, ran, movedBy, firstAsked, nothingToDo, doneOf, callOf}
+use Rattle.take.specs.Take.{Outcome, ran, movedBy, stretchEnd, rendersNothing, doneOf, callOf}
 use Rattle.retakes.specs.Retakes.{Reel, reel, called}
 use Rattle.inputs.specs.Inputs.{zeros, textOf, scoreText, editsText, inputsOf}
 use Rattle.outputs.specs.Lines.{heading, countsLine, editLine}
@@ -94,12 +94,12 @@ module _ (bank : List ℤ) (full-bank : length bank ≡ bankLength) where
   lent-passes rows t e = rw (full-bank, e) refl
 
   render-is : (rows : List ℕ) (t : Take) → Long rows t → limitRefusal 3 rows .number ≡ 0 → callOf s 3 rows t render ≡ ran rows (runOf s rows 3 3 0 3 t)
-  unfolding callOf refusalOf leastCount largestCount scoreRefusal wrongPosition full countAfter rowsAfter position movedBy firstAsked nothingToDo doneOf
+  unfolding callOf refusalOf leastCount largestCount scoreRefusal wrongPosition full countAfter rowsAfter position movedBy stretchEnd rendersNothing doneOf
   render-is rows t e l = rw (lent-passes rows t e, l) refl
 
   edit-is : (rows : List ℕ) (k : ℕ) (row : List ℕ) (t : Take) → Long rows t → ltb k 3 ≡ true → limitRefusal 3 (putRow rows k row) .number ≡ 0
       → callOf s 3 rows t (edit k row) ≡ ran (putRow rows k row) (cond (same (rowAt rows k) row) (idle t) (runOf s (putRow rows k row) 3 3 k (k + 1) t))
-  unfolding callOf refusalOf leastCount largestCount scoreRefusal wrongPosition full countAfter rowsAfter position movedBy firstAsked nothingToDo doneOf
+  unfolding callOf refusalOf leastCount largestCount scoreRefusal wrongPosition full countAfter rowsAfter position movedBy stretchEnd rendersNothing doneOf
   edit-is rows k row t e b l = rw (lent-passes rows t e, b, l) refl
 
   -- ---- the whole rendering, and the edits of row 1 and of row 0
@@ -147,7 +147,7 @@ module _ (bank : List ℤ) (full-bank : length bank ≡ bankLength) where
 
   -- The line of an edit, and those of the edits after it.
   line-then : (o : Reel) (e : Call) (es : List Call) (line : List ℕ) (o' : Outcome) → countAfter (o .count) e ≡ o .count → called s o e ≡ o' → editLine (position e) (o' .answer) ≡ line
-      → editLines s o (e ∷ es) ≡ line ++ editLines s (reel (o .count) (o' .score) (o' .left)) es
+      → editLines s o (e ∷ es) ≡ line ++ editLines s (reel (o .count) (o' .rows) (o' .left)) es
   unfolding editLines
   line-then o e es line o' c q l = rw (next-is s o e c, q, l) refl
 

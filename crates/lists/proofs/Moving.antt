@@ -1,4 +1,4 @@
--- Moving a handful of numbers at a time: what is moved so far, and what is left.
+-- Moving a chunk_length of numbers at a time: what is moved so far, and what is left.
 use mathlib.Core.Path.{_≡_, refl, sym, ap, _∙_}
 use mathlib.Core.List.{List, [], _∷_, _++_, append-assoc}
 use Prim.Native.Nat.{ℕ, zero, suc, _+_, _-_, _*_, _≤_, _<_}
@@ -45,13 +45,13 @@ module _ (l x y : List ℕ) (m : ℕ) (h : m + length x + length y ≤ length l)
       let b : drop (m + length x) (put l m x) ≡ drop (m + length x) l = put-behind l x m room in
       rw (f, b) (append-assoc (take m l) x _ ∙ both)
 
--- ---- A handful.
+-- ---- A chunk_length.
 
--- Numbers that were copied into a hand, and from it to another place.
-pub few-moved : (l hand : List ℕ) (from to n : ℕ) (x z : List ℕ) → from + n ≤ length l → to + n ≤ length l
-    → x ≡ take (from + n - from) (drop from l) → z ≡ take (n - 0) (drop 0 (take 0 hand ++ (x ++ drop (n - 0) (drop 0 hand))))
+-- Numbers that were copied into a buffer, and from it to another place.
+pub chunk-moved : (l buffer : List ℕ) (from to n : ℕ) (x z : List ℕ) → from + n ≤ length l → to + n ≤ length l
+    → x ≡ take (from + n - from) (drop from l) → z ≡ take (n - 0) (drop 0 (take 0 buffer ++ (x ++ drop (n - 0) (drop 0 buffer))))
     → take to l ++ (z ++ drop (to + n - to) (drop to l)) ≡ put l to (take n (drop from l))
-few-moved l hand from to n x z h k e f =
+chunk-moved l buffer from to n x z h k e f =
     let a : from + n - from ≡ n = omega arith in
     let b : to + n - to ≡ n = omega arith in
     let c : length (take n (drop from l)) ≡ n = length-take-le n (drop from l) (rw length-drop (omega arith)) in

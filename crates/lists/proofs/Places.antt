@@ -8,7 +8,7 @@ use native.Mathlib.Numerals.{add-one}
 use native.Mathlib.Omega.{arith}
 use lib.ListN.{length, take, drop, length-append, length-drop, take-append-drop}
 use lib.Seq.{length-take-le, take-take, take-at, drop-at, drop-drop}
-use Rattle.lists.specs.Lists.{part, put, Outside}
+use Rattle.lists.specs.Lists.{part, put}
 
 -- ---- Numbers put in at a place.
 
@@ -35,6 +35,11 @@ pub put-same : (l x : List ℕ) (a n : ℕ) → length x ≡ n → take n (drop 
 put-same l x a n e w = rw (e, sym w, take-append-drop n (drop a l)) (take-append-drop a l)
 
 -- ---- Part k.
+
+-- Outside parts a to b - 1, of w each, the new list is as the old one was.
+pub record Outside (w a b : ℕ) (old new : List ℕ) : Type 0 where
+  pub before : take (a * w) new ≡ take (a * w) old
+  pub behind : drop (b * w) new ≡ drop (b * w) old
 
 pub part-end : (k n w : ℕ) → k < n → k * w + w ≤ n * w
 part-end k n w h = rw (suc-mul k w) at (mul-le-mul-right w h)

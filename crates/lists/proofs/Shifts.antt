@@ -8,8 +8,8 @@ use native.Mathlib.Numerals.{add-one}
 use native.Mathlib.Omega.{arith}
 use lib.ListN.{length, take, drop, length-append, length-drop, take-append-drop}
 use lib.Seq.{length-take-le, take-take, take-add, drop-drop, take-at, drop-at, take-append-le, drop-append-le}
-use Rattle.lists.specs.Lists.{part, put, shiftUp, shiftDown, Outside}
-use Rattle.lists.proofs.Places.{put-before, put-here, put-behind, put-same-length, part-end, part-in-front, part-outside, put-part, put-outside, put-long}
+use Rattle.lists.specs.Lists.{part, put, shiftUp, shiftDown}
+use Rattle.lists.proofs.Places.{Outside, put-before, put-here, put-behind, put-same-length, part-end, part-in-front, part-outside, put-part, put-outside, put-long}
 
 -- ---- Some parts that are put in together.
 

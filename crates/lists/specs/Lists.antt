@@ -1,14 +1,13 @@
--- Lists of numbers as the calls are lent them, words or bytes: parts of one length, numbers put in the place of others, and what stays.
+-- Lists of numbers as the calls are lent them, words or bytes: parts of one length, numbers put in the place of others, and parts moved by one place.
 use Prim.Native.Nat.{ℕ, _+_, _-_, _*_}
-use mathlib.Core.Path.{_≡_}
 use mathlib.Core.List.{List, [], _∷_, _++_}
 use mathlib.Core.Bool.{Bool, true, false, _&&_}
 use lib.Dec.{eqb}
 use lib.ListN.{length, take, drop}
 
--- Part i of a list that is cut into parts of n.
+-- Part i of a list that is cut into parts of w.
 abbrev pub part : ℕ → List ℕ → ℕ → List ℕ
-part n l i = take n (drop (i * n) l)
+part w l i = take w (drop (i * w) l)
 
 -- Some numbers in the place of as many from a on.
 abbrev pub put : List ℕ → ℕ → List ℕ → List ℕ
@@ -28,8 +27,3 @@ same [] [] = true
 same [] (y ∷ ys) = false
 same (x ∷ xs) [] = false
 same (x ∷ xs) (y ∷ ys) = eqb x y && same xs ys
-
--- Lists cut into parts of n: outside parts a to b - 1 the new one is as the old one was.
-pub record Outside (n a b : ℕ) (old new : List ℕ) : Type 0 where
-  pub before : take (a * n) new ≡ take (a * n) old
-  pub behind : drop (b * n) new ≡ drop (b * n) old

@@ -42,25 +42,25 @@ pub fn copy_words(new: &[u32], words: &mut [u32])
 }
 
 // How many words are moved at a time.
-const HANDFUL: usize = 64;
+const CHUNK: usize = 64;
 
-// As many of some words as are moved at a time.
-fn handful(words: usize) -> usize
+// How many of so many words are moved next.
+fn chunk_length(words: usize) -> usize
     requires { ⌜ 0 < words ⌝ }
     ensures { λ r. ⌜ (0 < r) × ((r ≤ words) × (r ≤ 64)) ⌝ }
 {
-    if words < HANDFUL { words } else { HANDFUL }
+    if words < CHUNK { words } else { CHUNK }
 }
 
-// A few words copied to another place of the same run, which may overlap their own; `hand` holds them on the way.
-fn move_few(words: &mut [u32], from: usize, to: usize, count: usize, hand: &mut [u32])
-    requires { ⌜ (count ≤ length (now hand)) × ((from + count ≤ length (now words)) × (to + count ≤ length (now words))) ⌝ }
+// Words copied to another place of the same run, which may overlap their own, by way of a buffer.
+fn move_chunk(words: &mut [u32], from: usize, to: usize, count: usize, buffer: &mut [u32])
+    requires { ⌜ (count ≤ length (now buffer)) × ((from + count ≤ length (now words)) × (to + count ≤ length (now words))) ⌝ }
     ensures { λ _. ⌜ now (words .exit) ≡ put (now (words .entry)) to (take count (drop from (now (words .entry)))) ⌝ }
 {
     let from_end = from + count;
     let to_end = to + count;
-    copy_words(&words[from..from_end], &mut hand[0..count]);
-    copy_words(&hand[0..count], &mut words[to..to_end]);
+    copy_words(&words[from..from_end], &mut buffer[0..count]);
+    copy_words(&buffer[0..count], &mut words[to..to_end]);
 }
 
 // The words from `from` to before `end` moved up by so many places, the last ones first.
@@ -68,13 +68,13 @@ fn move_up(words: &mut [u32], from: usize, end: usize, by: usize)
     requires { ⌜ (from ≤ end) × (end + by ≤ length (now words)) ⌝ }
     ensures { λ _. ⌜ now (words .exit) ≡ put (now (words .entry)) (from + by) (take (end - from) (drop from (now (words .entry)))) ⌝ }
 {
-    let mut hand = [0; HANDFUL];
+    let mut buffer = [0; CHUNK];
     let mut at = end;
     while from < at {
-        let count = handful(at - from);
+        let count = chunk_length(at - from);
         at -= count;
         let to = at + by;
-        move_few(words, at, to, count, &mut hand);
+        move_chunk(words, at, to, count, &mut buffer);
     }
 }
 
@@ -83,12 +83,12 @@ fn move_down(words: &mut [u32], from: usize, end: usize, by: usize)
     requires { ⌜ (by ≤ from) × ((from ≤ end) × (end ≤ length (now words))) ⌝ }
     ensures { λ _. ⌜ now (words .exit) ≡ put (now (words .entry)) (from - by) (take (end - from) (drop from (now (words .entry)))) ⌝ }
 {
-    let mut hand = [0; HANDFUL];
+    let mut buffer = [0; CHUNK];
     let mut at = from;
     while at < end {
-        let count = handful(end - at);
+        let count = chunk_length(end - at);
         let to = at - by;
-        move_few(words, at, to, count, &mut hand);
+        move_chunk(words, at, to, count, &mut buffer);
         at += count;
     }
 }

@@ -1,5 +1,5 @@
 -- The calls over a score and a take, and the score that each leaves: whole rendering and an edit of document 01, an insertion and a removal of
--- document 02. Each is handed a row count beside the lent words, which may be longer.
+-- document 02. Each is handed a row count beside the lent words, which may be longer than the score.
 use Prim.Native.Nat.{ℕ, _+_, _-_}
 use mathlib.Core.List.{List}
 use Rattle.score.specs.Rows.{mostRows, putRow, insertRow, removeRow}
@@ -10,14 +10,14 @@ pub data Call : Type 0 where
   insert : (p : ℕ) (row : List ℕ) → Call
   remove : (p : ℕ) → Call
 
--- The row count after a call.
+-- The row count after an accepted call.
 unfoldable pub countAfter : ℕ → Call → ℕ
 countAfter n render = n
 countAfter n (edit k row) = n
 countAfter n (insert p row) = n + 1
 countAfter n (remove p) = n - 1
 
--- The lent row words after a call: the row put in its place, put between the others, or taken out.
+-- The lent row words after an accepted call: the row put in its place, put between the others, or taken out.
 unfoldable pub rowsAfter : ℕ → List ℕ → Call → List ℕ
 rowsAfter n rows render = rows
 rowsAfter n rows (edit k row) = putRow rows k row

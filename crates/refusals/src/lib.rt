@@ -84,7 +84,8 @@ fn short_take(n: usize, frames: usize, out: usize, aux: usize, kept: usize) -> b
     kept < n * KEPT_WORDS
 }
 
-// The same of 6 and 7, where a call takes counts from `least` to `largest`. The lent words by their lengths.
+// The number of the first of 6 and 7 that holds, 0 where none does, where a call takes counts from `least` to `largest`. The lent words by their
+// lengths.
 fn lengths_number(
     least: usize,
     largest: usize,

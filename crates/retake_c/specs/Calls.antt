@@ -55,4 +55,4 @@ abbrev pub called : Given → List ℕ → Take → Called
 called result rows t = record { result = result; rows = rows; left = t }
 
 abbrev pub ofCall : Outcome → Called
-ofCall o = called (givenOf (resultOf (o .answer))) (o .score) (o .left)
+ofCall o = called (givenOf (resultOf (o .answer))) (o .rows) (o .left)

@@ -23,9 +23,9 @@ use Rattle.retake_lib.specs.Lent.{EditDone, EditsDone}
 -- ---- the row count
 
 -- a rendering and an edit leave it, accepted or refused
-pub next-is : (s : Setup) (o : Reel) (c : Call) → countAfter (o .count) c ≡ o .count → next s o c ≡ reel (o .count) (called s o c .score) (called s o c .left)
+pub next-is : (s : Setup) (o : Reel) (c : Call) → countAfter (o .count) c ≡ o .count → next s o c ≡ reel (o .count) (called s o c .rows) (called s o c .left)
 unfolding next
-next-is s o c e = ap (λ (n : ℕ). reel n (called s o c .score) (called s o c .left)) (by (eqb (resultOf (called s o c .answer) .number) 0))
+next-is s o c e = ap (λ (n : ℕ). reel n (called s o c .rows) (called s o c .left)) (by (eqb (resultOf (called s o c .answer) .number) 0))
   where
     by : (b : Bool) → cond b (countAfter (o .count) c) (o .count) ≡ o .count
     by true = e
@@ -33,7 +33,7 @@ next-is s o c e = ap (λ (n : ℕ). reel n (called s o c .score) (called s o c .
 
 pub next-left : (s : Setup) (n : ℕ) (rows : List ℕ) (t : Take) (c : Call) {a : Answer} {rows' : List ℕ} {t' : Take} → countAfter n c ≡ n
     → outcome a rows' t' ≡ callOf s n rows t c → reel n rows' t' ≡ next s (reel n rows t) c
-next-left s n rows t c e h = ap (λ (o : Outcome). reel n (o .score) (o .left)) h ∙ sym (next-is s (reel n rows t) c e)
+next-left s n rows t c e h = ap (λ (o : Outcome). reel n (o .rows) (o .left)) h ∙ sym (next-is s (reel n rows t) c e)
 
 -- ---- one edit
 

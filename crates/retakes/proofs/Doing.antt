@@ -9,23 +9,23 @@ use native.Mathlib.Omega.{arith}
 use borrow.Author.Tests.{eq-eqb, ne-eqb, eqb-true, le-ltb}
 use lib.Dec.{eqb}
 use lib.ListN.{length}
-use Rattle.lists.specs.Lists.{same, Outside}
+use Rattle.lists.specs.Lists.{same}
 use Rattle.lists.proofs.Copying.{same-eq, same-refl}
 use Rattle.lists.proofs.Cases.{le-or-lt}
-use Rattle.lists.proofs.Places.{put-same}
+use Rattle.lists.proofs.Places.{Outside, put-same}
 use Rattle.lists.proofs.Shifts.{past}
 use Rattle.utils.specs.Holds.{total}
 use Rattle.utils.specs.declared.holds.Holds.{Holds}
 use Rattle.voice.specs.Voice.{keptCount}
 use Rattle.score.specs.Rows.{rowWords, wordFor, restart, rowAt, restarts, putRow, removeRow}
 use Rattle.score.specs.declared.refusal.Refusal.{Refusal}
-use Rattle.rows.specs.Rows.{Setup, Take, rowIn, keptAt, beforeRow, wordsBefore, Run, idle, stopsOf, runOf}
+use Rattle.rows.specs.Rows.{Setup, Take, rowIn, wordsBefore, Run, idle, stopsOf, runOf}
 use Rattle.rows.proofs.Ending.{not-the-end}
 use Rattle.runs.proofs.Turns.{SameLengths}
 use Rattle.refusals.specs.Calls.{Call, render, edit, insert, remove, countAfter, rowsAfter, position}
 use Rattle.refusals.proofs.Accepted.{Accepted, accepted}
 use Rattle.take.specs.declared.Answer.the-variants.{Done, Refused}
-use Rattle.take.specs.Take.{resultOf, Outcome, refusedBy, ran, movedBy, firstAsked, nothingToDo, doneOf, callOf}
+use Rattle.take.specs.Take.{resultOf, Outcome, refusedBy, ran, movedBy, stretchEnd, rendersNothing, doneOf, callOf}
 use Rattle.take.proofs.Calls.{call-refused, call-done, render-holding, edit-retakable, insert-insertable, remove-removable}
 use Rattle.retakes.specs.Retakes.{
   Reel,
@@ -105,7 +105,7 @@ module _ (s : Setup) (n : ℕ) (rows : List ℕ) (t : Take) (c : Call) where
   old j = wordsBefore s (t .kept) (came c j)
 
   abbrev run : Run
-  run = runOf s rows' n' n' (position c) (firstAsked n c) t'
+  run = runOf s rows' n' n' (position c) (stretchEnd n c) t'
 
   -- Rows from the call's position to before the stop are made, and no other is written.
   pub record Did (r : Run) : Type 0 where
@@ -120,21 +120,21 @@ module _ (s : Setup) (n : ℕ) (rows : List ℕ) (t : Take) (c : Call) where
 
   -- A call that runs: before the row at which its stop is first asked it could not have stopped.
   record Runs : Type 0 where
-    starts : position c < firstAsked n c
-    ends : firstAsked n c ≤ n'
-    low : lowestStop n c ≤ firstAsked n c
+    starts : position c < stretchEnd n c
+    ends : stretchEnd n c ≤ n'
+    low : lowestStop n c ≤ stretchEnd n c
     skips : (u : Take) → ((i : ℕ) → i < position c → wordsAt (s .frames) u i ≡ wordsAt (s .frames) t' i)
-        → (i : ℕ) → lowestStop n c ≤ i → i < firstAsked n c → Stop n' rows' old (wordsBefore s (u .kept)) i → ⊥
+        → (i : ℕ) → lowestStop n c ≤ i → i < stretchEnd n c → Stop n' rows' old (wordsBefore s (u .kept)) i → ⊥
 
   did-run : Moved s n rows t c → Runs → Did run
   did-run m q =
-      let d : Ran s rows' n' (position c) (firstAsked n c) t' run =
-      run-ran s rows' n' n' (position c) (firstAsked n c) t' (q .starts) (q .ends) (omega arith) (m .room) in
+      let d : Ran s rows' n' (position c) (stretchEnd n c) t' run =
+      run-ran s rows' n' n' (position c) (stretchEnd n c) t' (q .starts) (q .ends) (omega arith) (m .room) in
       let u = run .left in
       let j = position c + run .report .rows in
       let rows-are : run .report .rows ≡ j - position c = omega arith in
-      let was : (i : ℕ) → firstAsked n c ≤ i → i ≤ n' → wordsBefore s (t' .kept) i ≡ old i = λ i x y. m .before i (omega (arith, q .starts)) (omega (arith, q .low)) y in
-      let asks : (i : ℕ) → firstAsked n c ≤ i → i ≤ n' → stopsOf n' rows' i (same (wordsBefore s (t' .kept) i) (wordsBefore s (u .kept) i)) ≡ stopsOf n' rows' i (same (old i) (wordsBefore s (u .kept) i)) =
+      let was : (i : ℕ) → stretchEnd n c ≤ i → i ≤ n' → wordsBefore s (t' .kept) i ≡ old i = λ i x y. m .before i (omega (arith, q .starts)) (omega (arith, q .low)) y in
+      let asks : (i : ℕ) → stretchEnd n c ≤ i → i ≤ n' → stopsOf n' rows' i (same (wordsBefore s (t' .kept) i) (wordsBefore s (u .kept) i)) ≡ stopsOf n' rows' i (same (old i) (wordsBefore s (u .kept) i)) =
       λ i x y. ap (λ (w : List ℕ). stopsOf n' rows' i (same w (wordsBefore s (u .kept) i))) (was i x y) in
       record {
         stop = j;
@@ -142,7 +142,7 @@ module _ (s : Setup) (n : ℕ) (rows : List ℕ) (t : Take) (c : Call) where
           least = omega (arith, d .least, q .low);
           most = d .most;
           stops = stop-why n' rows' old (wordsBefore s (u .kept)) j (sym (asks j (d .least) (d .most)) ∙ d .stops);
-          smallest = λ i x y. smallest d asks i x y (le-or-lt (firstAsked n c) i);
+          smallest = λ i x y. smallest d asks i x y (le-or-lt (stretchEnd n c) i);
         };
         since = omega arith;
         count = rows-are;
@@ -152,9 +152,9 @@ module _ (s : Setup) (n : ℕ) (rows : List ℕ) (t : Take) (c : Call) where
         lengths = d .lengths;
       }
     where
-      smallest : Ran s rows' n' (position c) (firstAsked n c) t' run
-          → ((i : ℕ) → firstAsked n c ≤ i → i ≤ n' → stopsOf n' rows' i (same (wordsBefore s (t' .kept) i) (wordsBefore s (run .left .kept) i)) ≡ stopsOf n' rows' i (same (old i) (wordsBefore s (run .left .kept) i)))
-          → (i : ℕ) → lowestStop n c ≤ i → i < position c + run .report .rows → (firstAsked n c ≤ i) ⊎ (i < firstAsked n c) → Stop n' rows' old (wordsBefore s (run .left .kept)) i → ⊥
+      smallest : Ran s rows' n' (position c) (stretchEnd n c) t' run
+          → ((i : ℕ) → stretchEnd n c ≤ i → i ≤ n' → stopsOf n' rows' i (same (wordsBefore s (t' .kept) i) (wordsBefore s (run .left .kept) i)) ≡ stopsOf n' rows' i (same (old i) (wordsBefore s (run .left .kept) i)))
+          → (i : ℕ) → lowestStop n c ≤ i → i < position c + run .report .rows → (stretchEnd n c ≤ i) ⊎ (i < stretchEnd n c) → Stop n' rows' old (wordsBefore s (run .left .kept)) i → ⊥
       smallest d asks i x y (inl l) = stop-not n' rows' old (wordsBefore s (run .left .kept)) i (sym (asks i l (omega (arith, d .most))) ∙ d .smallest i l y)
       smallest d asks i x y (inr l) = q .skips (run .left) (λ k z. words-elsewhere (s .frames) (position c) (position c + run .report .rows) t' (run .left) (d .elsewhere) k (inl z)) i x l
 
@@ -162,11 +162,11 @@ module _ (s : Setup) (n : ℕ) (rows : List ℕ) (t : Take) (c : Call) where
   pub roomy-after : Moved s n rows t c → (r : Run) → Did r → Roomy s n' rows' (r .left)
   roomy-after m r d = roomy-still s n' rows' t' (r .left) (d .lengths) (m .room)
 
-  done-runs : nothingToDo s n rows t c ≡ false → doneOf s n rows t c ≡ ran rows' run
+  done-runs : rendersNothing s n rows t c ≡ false → doneOf s n rows t c ≡ ran rows' run
   unfolding doneOf
   done-runs w = rw w
 
-  done-idles : nothingToDo s n rows t c ≡ true → doneOf s n rows t c ≡ ran rows' (idle t')
+  done-idles : rendersNothing s n rows t c ≡ true → doneOf s n rows t c ≡ ran rows' (idle t')
   unfolding doneOf
   done-idles w = rw w
 
@@ -180,7 +180,7 @@ module _ (s : Setup) (n : ℕ) (rows : List ℕ) (t : Take) (c : Call) where
 
 module _ (s : Setup) (n : ℕ) (rows : List ℕ) (t : Take) where
   render-does : Accepted s n rows t render → Does s n rows t render
-  unfolding Five countAfter position firstAsked lowestStop nothingToDo
+  unfolding Five countAfter position stretchEnd lowestStop rendersNothing
   render-does a =
       record {
         run = run s n rows t render;
@@ -191,7 +191,7 @@ module _ (s : Setup) (n : ℕ) (rows : List ℕ) (t : Take) where
       }
 
   edit-does : (k : ℕ) (row : List ℕ) → length row ≡ rowWords → (rowAt rows k ≡ row → ⊥) → Accepted s n rows t (edit k row) → Does s n rows t (edit k row)
-  unfolding Five countAfter position firstAsked lowestStop nothingToDo
+  unfolding Five countAfter position stretchEnd lowestStop rendersNothing
   edit-does k row five w a =
       record {
         run = run s n rows t (edit k row);
@@ -207,7 +207,7 @@ module _ (s : Setup) (n : ℕ) (rows : List ℕ) (t : Take) where
       }
 
   insert-does : (p : ℕ) (row : List ℕ) → length row ≡ rowWords → Accepted s n rows t (insert p row) → Does s n rows t (insert p row)
-  unfolding Five countAfter position firstAsked lowestStop nothingToDo
+  unfolding Five countAfter position stretchEnd lowestStop rendersNothing
   insert-does p row five a =
       record {
         run = run s n rows t (insert p row);
@@ -222,7 +222,7 @@ module _ (s : Setup) (n : ℕ) (rows : List ℕ) (t : Take) where
             });
       }
 
-  -- ---- A removal: before the row now there stand the words that stood before the removed one; where it came from, its kept ones.
+  -- ---- A removal: before the row now there stand the words that stood before the removed one; where it came from, those behind it.
 
   module _ (p : ℕ) (a : Accepted s n rows t (remove p)) where
     abbrev C : Call
@@ -232,9 +232,9 @@ module _ (s : Setup) (n : ℕ) (rows : List ℕ) (t : Take) where
     unfolding Five
     m = moved s n rows t C tt a
 
-    old-here : old s n rows t C p ≡ keptAt (t .kept) p
-    unfolding came beforeRow
-    old-here = let e : p + 1 ≡ suc p = omega arith in rw (le-ltb p p (le-refl p), e)
+    old-here : old s n rows t C p ≡ wordsBefore s (t .kept) (p + 1)
+    unfolding came
+    old-here = rw (le-ltb p p (le-refl p))
 
     new-here : (u : Take) → ((i : ℕ) → i < p → wordsAt (s .frames) u i ≡ wordsAt (s .frames) (t' s n rows t C) i) → wordsBefore s (u .kept) p ≡ wordsBefore s (t .kept) p
     unfolding position
@@ -245,11 +245,11 @@ module _ (s : Setup) (n : ℕ) (rows : List ℕ) (t : Take) where
         f j l ∙ m .words j (inl l) (omega (arith, m .starts)) ∙ ap (λ (i : ℕ). wordsAt (s .frames) t i) (m .front j l))
 
     asked : (u : Take) → ((i : ℕ) → i < p → wordsAt (s .frames) u i ≡ wordsAt (s .frames) (t' s n rows t C) i)
-        → stopsOf (n - 1) (removeRow n rows p) p (same (old s n rows t C p) (wordsBefore s (u .kept) p)) ≡ nothingToDo s n rows t C
-    unfolding nothingToDo
+        → stopsOf (n - 1) (removeRow n rows p) p (same (old s n rows t C p) (wordsBefore s (u .kept) p)) ≡ rendersNothing s n rows t C
+    unfolding rendersNothing
     asked u f = rw (old-here, new-here u f)
 
-    idles : nothingToDo s n rows t C ≡ true → Does s n rows t C
+    idles : rendersNothing s n rows t C ≡ true → Does s n rows t C
     unfolding countAfter rowsAfter position lowestStop madeFrom total
     idles w =
         let u = t' s n rows t C in
@@ -276,8 +276,8 @@ module _ (s : Setup) (n : ℕ) (rows : List ℕ) (t : Take) where
         nothing-outside : {w : ℕ} {l : List ℕ} → Outside w p p l l
         nothing-outside = record { before = refl; behind = refl }
 
-    runs : nothingToDo s n rows t C ≡ false → Does s n rows t C
-    unfolding countAfter rowsAfter position firstAsked lowestStop
+    runs : rendersNothing s n rows t C ≡ false → Does s n rows t C
+    unfolding countAfter rowsAfter position stretchEnd lowestStop
     runs w =
         record {
           run = run s n rows t C;
@@ -296,9 +296,9 @@ module _ (s : Setup) (n : ℕ) (rows : List ℕ) (t : Take) where
             (stop-not (n - 1) (removeRow n rows p) (old s n rows t C) (wordsBefore s (u .kept)) p (asked u f ∙ w))
 
     remove-does : Does s n rows t C
-    remove-does = go (nothingToDo s n rows t C) refl
+    remove-does = go (rendersNothing s n rows t C) refl
       where
-        go : (b : Bool) → nothingToDo s n rows t C ≡ b → Does s n rows t C
+        go : (b : Bool) → rendersNothing s n rows t C ≡ b → Does s n rows t C
         go true w = idles w
         go false w = runs w
 
@@ -308,20 +308,20 @@ module _ (s : Setup) (n : ℕ) (rows : List ℕ) (t : Take) where
 pub unchanging-or-not : (s : Setup) (o : Reel) (c : Call) → Unchanging o c ⊎ (Unchanging o c → ⊥)
 unfolding Unchanging
 unchanging-or-not s o render = inr (λ v. v)
-unchanging-or-not s o (edit k row) = go (same (rowAt (o .score) k) row) refl
+unchanging-or-not s o (edit k row) = go (same (rowAt (o .rows) k) row) refl
   where
-    go : (b : Bool) → same (rowAt (o .score) k) row ≡ b → (rowAt (o .score) k ≡ row) ⊎ (rowAt (o .score) k ≡ row → ⊥)
-    go true e = inl (same-eq (rowAt (o .score) k) row e)
+    go : (b : Bool) → same (rowAt (o .rows) k) row ≡ b → (rowAt (o .rows) k ≡ row) ⊎ (rowAt (o .rows) k ≡ row → ⊥)
+    go true e = inl (same-eq (rowAt (o .rows) k) row e)
     go false e = inr (λ w. true≢false (sym (rw w (same-refl row)) ∙ e))
 unchanging-or-not s o (insert p row) = inr (λ v. v)
 unchanging-or-not s o (remove p) = inr (λ v. v)
 
-does : (s : Setup) (o : Reel) (c : Call) → Five c → (Unchanging o c → ⊥) → Accepted s (o .count) (o .score) (o .left) c → Does s (o .count) (o .score) (o .left) c
+does : (s : Setup) (o : Reel) (c : Call) → Five c → (Unchanging o c → ⊥) → Accepted s (o .count) (o .rows) (o .left) c → Does s (o .count) (o .rows) (o .left) c
 unfolding Five Unchanging
-does s o render five w a = render-does s (o .count) (o .score) (o .left) a
-does s o (edit k row) five w a = edit-does s (o .count) (o .score) (o .left) k row five w a
-does s o (insert p row) five w a = insert-does s (o .count) (o .score) (o .left) p row five a
-does s o (remove p) five w a = remove-does s (o .count) (o .score) (o .left) p a
+does s o render five w a = render-does s (o .count) (o .rows) (o .left) a
+does s o (edit k row) five w a = edit-does s (o .count) (o .rows) (o .left) k row five w a
+does s o (insert p row) five w a = insert-does s (o .count) (o .rows) (o .left) p row five a
+does s o (remove p) five w a = remove-does s (o .count) (o .rows) (o .left) p a
 
 module _ (s : Setup) (o : Reel) (c : Call) where
   abbrev r : Refusal
@@ -330,8 +330,8 @@ module _ (s : Setup) (o : Reel) (c : Call) where
   -- ---- Refused.
 
   module _ (h : r .number ≡ 0 → ⊥) where
-    refused-is : called s o c ≡ refusedBy r (o .score) (o .left)
-    refused-is = call-refused s (o .count) (o .score) (o .left) c h
+    refused-is : called s o c ≡ refusedBy r (o .rows) (o .left)
+    refused-is = call-refused s (o .count) (o .rows) (o .left) c h
 
     pub next-refused : next s o c ≡ o
     unfolding next resultOf
@@ -340,29 +340,29 @@ module _ (s : Setup) (o : Reel) (c : Call) where
   -- ---- Accepted.
 
   module _ (z : r .number ≡ 0) where
-    pub is-accepted : Accepted s (o .count) (o .score) (o .left) c
-    is-accepted = accepted s (o .count) (o .score) (o .left) c z
+    pub is-accepted : Accepted s (o .count) (o .rows) (o .left) c
+    is-accepted = accepted s (o .count) (o .rows) (o .left) c z
 
-    called-is : (x : Run) → doneOf s (o .count) (o .score) (o .left) c ≡ ran (rowsAfter (o .count) (o .score) c) x
-        → called s o c ≡ ran (rowsAfter (o .count) (o .score) c) x
-    called-is x q = call-done s (o .count) (o .score) (o .left) c z ∙ q
+    called-is : (x : Run) → doneOf s (o .count) (o .rows) (o .left) c ≡ ran (rowsAfter (o .count) (o .rows) c) x
+        → called s o c ≡ ran (rowsAfter (o .count) (o .rows) c) x
+    called-is x q = call-done s (o .count) (o .rows) (o .left) c z ∙ q
 
-    next-is : (x : Run) → called s o c ≡ ran (rowsAfter (o .count) (o .score) c) x
-        → next s o c ≡ reel (countAfter (o .count) c) (rowsAfter (o .count) (o .score) c) (x .left)
+    next-is : (x : Run) → called s o c ≡ ran (rowsAfter (o .count) (o .rows) c) x
+        → next s o c ≡ reel (countAfter (o .count) c) (rowsAfter (o .count) (o .rows) c) (x .left)
     unfolding next resultOf
     next-is x q = rw q
 
     module _ (five : Five c) (w : Unchanging o c → ⊥) where
-      pub doing : Does s (o .count) (o .score) (o .left) c
+      pub doing : Does s (o .count) (o .rows) (o .left) c
       doing = does s o c five w is-accepted
 
-      pub moves : Moved s (o .count) (o .score) (o .left) c
-      moves = moved s (o .count) (o .score) (o .left) c five is-accepted
+      pub moves : Moved s (o .count) (o .rows) (o .left) c
+      moves = moved s (o .count) (o .rows) (o .left) c five is-accepted
 
-      pub call-is : called s o c ≡ ran (rowsAfter (o .count) (o .score) c) (doing .run)
+      pub call-is : called s o c ≡ ran (rowsAfter (o .count) (o .rows) c) (doing .run)
       call-is = called-is (doing .run) (doing .is)
 
-      pub after-is : next s o c ≡ reel (countAfter (o .count) c) (rowsAfter (o .count) (o .score) c) (doing .run .left)
+      pub after-is : next s o c ≡ reel (countAfter (o .count) c) (rowsAfter (o .count) (o .rows) c) (doing .run .left)
       after-is = next-is (doing .run) call-is
 
       pub others : (i : ℕ) → (i < position c) ⊎ (doing .did .stop ≤ i) → i < countAfter (o .count) c
@@ -392,7 +392,7 @@ module _ (s : Setup) (o : Reel) (c : Call) where
                 (ap (λ (x : ℕ). record { rows = x; holds = doing .run .report .holds }) (doing .did .count)
                 ∙ ap (λ (x : Holds). record { rows = doing .did .stop - position c; holds = x }) q);
             count = ap (λ (x : Reel). x .count) after-is;
-            score = ap (λ (x : Reel). x .score) after-is ∙ score-laid s (o .count) (o .score) (o .left) c moves;
+            rows = ap (λ (x : Reel). x .rows) after-is ∙ score-laid s (o .count) (o .rows) (o .left) c moves;
             others = rw after-is others;
             past = rw after-is pasts;
           }
@@ -410,27 +410,27 @@ module _ (s : Setup) (o : Reel) (c : Call) where
 
 -- The score after it is the one before it.
 pub unchanging-row : (s : Setup) (o : Reel) (c : Call) → Five c → Unchanging o c
-    → o ≡ reel (countAfter (o .count) c) (rowsAfter (o .count) (o .score) c) (movedBy s (o .count) (o .left) c)
+    → o ≡ reel (countAfter (o .count) c) (rowsAfter (o .count) (o .rows) c) (movedBy s (o .count) (o .left) c)
 unfolding Five Unchanging countAfter rowsAfter movedBy
 unchanging-row s o render five w = absurd w
-unchanging-row s o (edit k row) five w = ap (λ (x : List ℕ). reel (o .count) x (o .left)) (sym (put-same (o .score) row (k * rowWords) rowWords five w))
+unchanging-row s o (edit k row) five w = ap (λ (x : List ℕ). reel (o .count) x (o .left)) (sym (put-same (o .rows) row (k * rowWords) rowWords five w))
 unchanging-row s o (insert p row) five w = absurd w
 unchanging-row s o (remove p) five w = absurd w
 
 module _ (s : Setup) (o : Reel) (c : Call) (five : Five c) (w : Unchanging o c) (z : refusalIn s o c .number ≡ 0) where
-  nothing-to-do : (c : Call) → Unchanging o c → nothingToDo s (o .count) (o .score) (o .left) c ≡ true
-  unfolding Unchanging nothingToDo
+  nothing-to-do : (c : Call) → Unchanging o c → rendersNothing s (o .count) (o .rows) (o .left) c ≡ true
+  unfolding Unchanging rendersNothing
   nothing-to-do render v = absurd v
   nothing-to-do (edit k row) v = rw v (same-refl row)
   nothing-to-do (insert p row) v = absurd v
   nothing-to-do (remove p) v = absurd v
 
-  unchanging-is : called s o c ≡ ran (o .score) (idle (o .left))
+  unchanging-is : called s o c ≡ ran (o .rows) (idle (o .left))
   unchanging-is =
-      called-is s o c z _ (done-idles s (o .count) (o .score) (o .left) c (nothing-to-do c w)) ∙ ap (λ (x : Reel). ran (x .score) (idle (x .left))) (sym (unchanging-row s o c five w))
+      called-is s o c z _ (done-idles s (o .count) (o .rows) (o .left) c (nothing-to-do c w)) ∙ ap (λ (x : Reel). ran (x .rows) (idle (x .left))) (sym (unchanging-row s o c five w))
 
   pub next-unchanging : next s o c ≡ o
-  next-unchanging = next-is s o c z _ (called-is s o c z _ (done-idles s (o .count) (o .score) (o .left) c (nothing-to-do c w))) ∙ sym (unchanging-row s o c five w)
+  next-unchanging = next-is s o c z _ (called-is s o c z _ (done-idles s (o .count) (o .rows) (o .left) c (nothing-to-do c w))) ∙ sym (unchanging-row s o c five w)
 
 pub retakes : Retakes
 unfolding resultOf

@@ -52,7 +52,7 @@ module _ (s : Setup) (Has : Take → Type 0) (law : Inherits s Has) where
   -- ---- A call that changes something.
 
   module _ (o : Reel) (c : Call) (z : refusalIn s o c .number ≡ 0) (f : Five c) (w : Unchanging o c → ⊥) where
-    abbrev D : Does s (o .count) (o .score) (o .left) c
+    abbrev D : Does s (o .count) (o .rows) (o .left) c
     D = doing s o c z f w
 
     abbrev u : Take
@@ -62,7 +62,7 @@ module _ (s : Setup) (Has : Take → Type 0) (law : Inherits s Has) where
     n' = countAfter (o .count) c
 
     abbrev rows' : List ℕ
-    rows' = rowsAfter (o .count) (o .score) c
+    rows' = rowsAfter (o .count) (o .rows) c
 
     good : (i : ℕ) → i < n' → rowWithin (rowAt rows' i) ≡ true
     good = each-within n' rows' (is-accepted s o c z .within)

@@ -8,9 +8,9 @@ use native.Mathlib.Omega.{arith}
 use borrow.Author.Tests.{lt-ltb, le-ltb}
 use lib.ListN.{length, take, drop, length-drop}
 use lib.Seq.{length-take-le}
-use Rattle.lists.specs.Lists.{part, put, shiftUp, Outside}
+use Rattle.lists.specs.Lists.{part, put, shiftUp}
 use Rattle.lists.proofs.Cases.{le-or-lt}
-use Rattle.lists.proofs.Places.{part-end, part-outside, put-same-length, put-outside, put-long}
+use Rattle.lists.proofs.Places.{Outside, part-end, part-outside, put-same-length, put-outside, put-long}
 use Rattle.lists.proofs.Shifts.{
   past,
   cut-put,

@@ -99,24 +99,24 @@ first-alike n rows rows' old new old' new' low j r p q f =
 
 -- The lent words hold the rows, and every row below the count stands as made.
 pub record Stands (s : Setup) (o : Reel) : Type 0 where
-  pub room : Roomy s (o .count) (o .score) (o .left)
-  pub made : (i : ℕ) → i < o .count → Made s (o .score) (o .left) i
+  pub room : Roomy s (o .count) (o .rows) (o .left)
+  pub made : (i : ℕ) → i < o .count → Made s (o .rows) (o .left) i
 
 begins-fresh : (s : Setup) (o : Reel) → Stands s o → cut s (o .count) (o .left) ≡ takeOf (freshOf s o)
-begins-fresh s o f = cut-fresh s (o .score) (o .count) (o .left) (f .room) (f .made) ∙ ap takeOf (sym (fresh-cut s (o .count) (o .score)))
+begins-fresh s o f = cut-fresh s (o .rows) (o .count) (o .left) (f .room) (f .made) ∙ ap takeOf (sym (fresh-cut s (o .count) (o .rows)))
 
 -- What an accepted call leaves, where it stands, is what it is to leave.
-is-afresh : (s : Setup) (o : Reel) (c : Call) (u : Take) → Moved s (o .count) (o .score) (o .left) c
-    → Stands s (reel (countAfter (o .count) c) (rowsAfter (o .count) (o .score) c) u) → Past (s .frames) (countAfter (o .count) c) (o .left) u
-    → reel (countAfter (o .count) c) (rowsAfter (o .count) (o .score) c) u ≡ afresh s o c
+is-afresh : (s : Setup) (o : Reel) (c : Call) (u : Take) → Moved s (o .count) (o .rows) (o .left) c
+    → Stands s (reel (countAfter (o .count) c) (rowsAfter (o .count) (o .rows) c) u) → Past (s .frames) (countAfter (o .count) c) (o .left) u
+    → reel (countAfter (o .count) c) (rowsAfter (o .count) (o .rows) c) u ≡ afresh s o c
 unfolding afresh
 is-afresh s o c u m f p =
     let n = countAfter (o .count) c in
-    let rows = rowsAfter (o .count) (o .score) c in
+    let rows = rowsAfter (o .count) (o .rows) c in
     let fresh-is : fresh s n rows ≡ fresh s n (scoreWith (scoreOf o) c) = sym (fresh-cut s n rows) ∙ ap (λ (x : List ℕ). fresh s n x) (m .score) in
     let left : u ≡ laidOver (o .left) (takeOf (fresh s n rows)) = laid-fresh s rows n u (f .room) (f .made) (o .left) p in
     ap (λ (x : Take). reel n rows x) (left ∙ ap (λ (x : List Row). laidOver (o .left) (takeOf x)) fresh-is)
-    ∙ ap (λ (x : List ℕ). reel n x (laidOver (o .left) (takeOf (fresh s n (scoreWith (scoreOf o) c))))) (score-laid s (o .count) (o .score) (o .left) c m)
+    ∙ ap (λ (x : List ℕ). reel n x (laidOver (o .left) (takeOf (fresh s n (scoreWith (scoreOf o) c))))) (score-laid s (o .count) (o .rows) (o .left) c m)
 
 -- ---- Whole rendering, of any take.
 
@@ -129,14 +129,14 @@ module _ (s : Setup) (o : Reel) (z : refusalIn s o render .number ≡ 0) where
   unfolding Unchanging
   unchanged-not v = v
 
-  abbrev did : Does s (o .count) (o .score) (o .left) render
+  abbrev did : Does s (o .count) (o .rows) (o .left) render
   did = doing s o render z five unchanged-not
 
   pub all-rows : did .did .stop ≡ o .count
   unfolding countAfter lowestStop
   all-rows = let f = did .did .first in omega (arith, f .least, f .most)
 
-  rendered-made : (i : ℕ) → i < o .count → Made s (o .score) (did .run .left) i
+  rendered-made : (i : ℕ) → i < o .count → Made s (o .rows) (did .run .left) i
   unfolding countAfter rowsAfter position
   rendered-made i h = did .did .made i (omega arith) (omega (arith, all-rows))
 
@@ -145,7 +145,7 @@ module _ (s : Setup) (o : Reel) (z : refusalIn s o render .number ≡ 0) where
   rendered-stands =
       let d = did in
       rw (after-is s o render z five unchanged-not)
-      (record { room = roomy-after s (o .count) (o .score) (o .left) render (moves s o render z five unchanged-not) (d .run) (d .did); made = rendered-made })
+      (record { room = roomy-after s (o .count) (o .rows) (o .left) render (moves s o render z five unchanged-not) (d .run) (d .did); made = rendered-made })
 
   rendered-afresh : next s o render ≡ afresh s o render
   rendered-afresh =
@@ -157,13 +157,13 @@ module _ (s : Setup) (o : Reel) (z : refusalIn s o render .number ≡ 0) where
   rendered-report =
       let n = o .count in
       let u = did .run .left in
-      let long : length (fresh s n (o .score)) ≡ n = fresh-long s (o .score) n 0 _ in
-      let f : take n (fresh s n (o .score)) ≡ fresh s n (o .score) = take-all n (fresh s n (o .score)) (omega arith) in
+      let long : length (fresh s n (o .rows)) ≡ n = fresh-long s (o .rows) n 0 _ in
+      let f : take n (fresh s n (o .rows)) ≡ fresh s n (o .rows) = take-all n (fresh s n (o .rows)) (omega arith) in
       let e : did .did .stop - 0 ≡ n = omega (arith, all-rows) in
       let h : did .run .report .holds ≡ holdsOf (freshOf s o) =
       did .did .holds
-      ∙ ap (λ (l : ℕ). holdsOf (madeFrom s (o .score) (u .kept) l 0)) e
-      ∙ ap holdsOf (rows-fresh s (o .score) n u rendered-made n 0 (omega arith) ∙ f ∙ sym (fresh-cut s n (o .score))) in
+      ∙ ap (λ (l : ℕ). holdsOf (madeFrom s (o .rows) (u .kept) l 0)) e
+      ∙ ap holdsOf (rows-fresh s (o .rows) n u rendered-made n 0 (omega arith) ∙ f ∙ sym (fresh-cut s n (o .rows))) in
       ap (λ (x : Outcome). x .answer) (call-is s o render z five unchanged-not)
       ∙ ap Done (ap (λ (x : ℕ). record { rows = x; holds = did .run .report .holds }) (did .did .count ∙ e) ∙ ap (λ (x : Holds). record { rows = n; holds = x }) h)
 
@@ -193,7 +193,7 @@ module _ (s : Setup) (o : Reel) (c : Call) (five : Five c) (f : Stands s o) wher
     step-unchanged w =
         let q = next-unchanging s o c five w z in
         let e = unchanging-row s o c five w in
-        let m = moved s (o .count) (o .score) (o .left) c five (is-accepted s o c z) in
+        let m = moved s (o .count) (o .rows) (o .left) c five (is-accepted s o c z) in
         record {
           is-right = record { refuses = λ h. absurd (h z); unchanged = retakes s o c five .unchanged; changed = λ _ h. absurd (h w) };
           is = q ∙ e ∙ is-afresh s o c (movedBy s (o .count) (o .left) c) m (subst (λ (x : Reel). Stands s x) e f) (m .past) ∙ sym taken;
@@ -205,9 +205,9 @@ module _ (s : Setup) (o : Reel) (c : Call) (five : Five c) (f : Stands s o) wher
       n' = countAfter (o .count) c
 
       abbrev rows' : List ℕ
-      rows' = rowsAfter (o .count) (o .score) c
+      rows' = rowsAfter (o .count) (o .rows) c
 
-      abbrev D : Does s (o .count) (o .score) (o .left) c
+      abbrev D : Does s (o .count) (o .rows) (o .left) c
       D = doing s o c z five w
 
       abbrev u : Take
@@ -216,7 +216,7 @@ module _ (s : Setup) (o : Reel) (c : Call) (five : Five c) (f : Stands s o) wher
       abbrev j : ℕ
       j = D .did .stop
 
-      m : Moved s (o .count) (o .score) (o .left) c
+      m : Moved s (o .count) (o .rows) (o .left) c
       m = moves s o c z five w
 
       side : (i : ℕ) → (i < position c) ⊎ (j ≤ i) → (i < position c) ⊎ (lowestStop (o .count) c ≤ i)
@@ -278,7 +278,7 @@ module _ (s : Setup) (o : Reel) (c : Call) (five : Five c) (f : Stands s o) wher
           go (inl x) (inl y) = late i h (eq-or-lt-of-le y)
 
       stands-again : Stands s (reel n' rows' u)
-      stands-again = record { room = roomy-after s (o .count) (o .score) (o .left) c m (D .run) (D .did); made = made }
+      stands-again = record { room = roomy-after s (o .count) (o .rows) (o .left) c m (D .run) (D .did); made = made }
 
       retaken : FreshRetaken s o c
       retaken =
@@ -293,8 +293,8 @@ module _ (s : Setup) (o : Reel) (c : Call) (five : Five c) (f : Stands s o) wher
                 rw q
                 (first-alike n' rows' (take (n' * rowWords) rows') _ _ _ _ (lowestStop (o .count) c) j (λ i a. part-of-cut rowWords n' i rows' a)
                 (λ i a b.
-                before-fresh s (o .score) (o .count) (o .left) (f .made) (came c i) (m .reach i a b)
-                ∙ ap (λ (x : List Row). beforeIn s x (came c i)) (sym (fresh-cut s (o .count) (o .score))))
+                before-fresh s (o .rows) (o .count) (o .left) (f .made) (came c i) (m .reach i a b)
+                ∙ ap (λ (x : List Row). beforeIn s x (came c i)) (sym (fresh-cut s (o .count) (o .rows))))
                 (λ i a. before-fresh s rows' n' u made i a ∙ ap (λ (x : List Row). beforeIn s x i) (sym g)) (D .did .first));
             writes = writes s o c z five w _ (h ∙ rw q refl);
           }
@@ -343,7 +343,7 @@ accepted-is s o e = go (eqb (refusalIn s o render .number) 0) (eqb-true (refusal
   where
     go : (b : Bool) → (b ≡ true → refusalIn s o render .number ≡ 0) → (b ≡ false → refusalIn s o render .number ≡ 0 → ⊥) → refusalIn s o render .number ≡ 0
     go true a h = a refl
-    go false a h = ap (λ (x : Outcome). resultOf (x .answer) .number) (sym (call-refused s (o .count) (o .score) (o .left) render (h refl))) ∙ e
+    go false a h = ap (λ (x : Outcome). resultOf (x .answer) .number) (sym (call-refused s (o .count) (o .rows) (o .left) render (h refl))) ∙ e
 
 pub demand-3 : Demand3
 unfolding after expected

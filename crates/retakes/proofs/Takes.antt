@@ -5,13 +5,12 @@ use mathlib.Core.Logic.{_⊎_}
 use Prim.Native.Nat.{ℕ, _+_, _*_, _≤_, _<_}
 use native.Mathlib.Omega.{arith}
 use lib.ListN.{length}
-use Rattle.lists.proofs.Places.{part-end, put-part, put-outside, put-long, part-outside, outside-then}
+use Rattle.lists.proofs.Places.{Outside, part-end, put-part, put-outside, put-long, part-outside, outside-then}
 use Rattle.score.specs.Rows.{rowWords}
 use Rattle.voice.specs.Voice.{keptCount}
 use Rattle.voice.proofs.Laws as voice
 use Rattle.rows.specs.Rows.{Setup, Take, rowFrom, rowBy, putWords}
 use Rattle.runs.proofs.Turns.{SameLengths}
-use Rattle.lists.specs.Lists.{Outside}
 use Rattle.retakes.specs.Retakes.{wordsAt}
 
 -- The buffers hold n rows.

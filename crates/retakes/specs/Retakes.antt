@@ -1,6 +1,6 @@
 -- Demand 3: what is promised of an accepted whole rendering and of every list of calls after it, edits, insertions, removals and renderings; and
 -- before it, what a call does to any take. The calls are `callOf` of take · Take, to which the code is proved equal. Below: fresh rendering, lists
--- of calls, what one call does, and the claims: `Retakes` of any take, `Inherited` of what every row has, `Demand3`.
+-- of calls, what a list is to leave, what one call does, and the claims: `Retakes` of any take, `Demand3`, `Inherited` of what every row has.
 use Prim.Native.Nat.{ℕ, zero, suc, _+_, _-_, _*_, _≤_, _<_}
 use mathlib.Core.List.{List, [], _∷_, _++_, map}
 use mathlib.Core.Bool.{Bool, true, cond}
@@ -68,28 +68,28 @@ beforeIn s rs (suc i) = getD rs i noRow .words .kept
 -- What a call is handed and leaves: the row count, the lent row words and the lent take.
 pub record Reel : Type 0 where
   pub count : ℕ
-  pub score : List ℕ
+  pub rows : List ℕ
   pub left : Take
 
 abbrev pub reel : ℕ → List ℕ → Take → Reel
-reel n rows t = record { count = n; score = rows; left = t }
+reel n rows t = record { count = n; rows = rows; left = t }
 
 -- What the table says of a call that is handed a reel.
 abbrev pub refusalIn : Setup → Reel → Call → Refusal
-refusalIn s o c = refusalOf s (o .count) (o .score) (o .left) c
+refusalIn s o c = refusalOf s (o .count) (o .rows) (o .left) c
 
 abbrev pub accepts : Setup → Reel → Call → Bool
 accepts s o c = eqb (refusalIn s o c .number) 0
 
 -- A call handed a reel.
 abbrev pub called : Setup → Reel → Call → Outcome
-called s o c = callOf s (o .count) (o .score) (o .left) c
+called s o c = callOf s (o .count) (o .rows) (o .left) c
 
 -- What it leaves. "each call handed the row count as it then is": the caller counts an accepted insertion or removal.
 unfoldable pub next : Setup → Reel → Call → Reel
 next s o c =
     let a = called s o c in
-    reel (cond (eqb (resultOf (a .answer) .number) 0) (countAfter (o .count) c) (o .count)) (a .score) (a .left)
+    reel (cond (eqb (resultOf (a .answer) .number) 0) (countAfter (o .count) c) (o .count)) (a .rows) (a .left)
 
 -- What a list of calls leaves, each handed what the call before it left.
 unfoldable pub after : Setup → Reel → List Call → Reel
@@ -111,9 +111,9 @@ Fives (c ∷ cs) = Five c × Fives cs
 
 -- A score: the words of the rows below the count.
 abbrev pub scoreOf : Reel → List ℕ
-scoreOf o = take (o .count * rowWords) (o .score)
+scoreOf o = take (o .count * rowWords) (o .rows)
 
--- A score with a call's row put in its place, put between the others, or taken out.
+-- A score with a call's row put in its place, put between the others, or taken out: of the score alone, where `rowsAfter` is of the lent words.
 unfoldable pub scoreWith : List ℕ → Call → List ℕ
 scoreWith rows render = rows
 scoreWith rows (edit k row) = putRow rows k row
@@ -134,16 +134,17 @@ unfoldable pub afresh : Setup → Reel → Call → Reel
 afresh s o c =
     let n = countAfter (o .count) c in
     let score = scoreWith (scoreOf o) c in
-    reel n (put (o .score) 0 score) (laidOver (o .left) (takeOf (fresh s n score)))
+    reel n (put (o .rows) 0 score) (laidOver (o .left) (takeOf (fresh s n score)))
 
--- "a refused one .. leaves score and take."
+-- What a list is to leave: "a refused one .. leaves score and take." So each place past the count has what the last call that wrote there left.
 unfoldable pub expected : Setup → Reel → List Call → Reel
 expected s o [] = o
 expected s o (c ∷ cs) = expected s (cond (accepts s o c) (afresh s o c) o) cs
 
 -- ---- What one call does.
 
--- Where row i of the score after a call came from: the rows behind one put in stood a place lower, those behind one taken out a place higher.
+-- Where row i of the score after a call came from: the rows behind one put in stood a place lower, those behind one taken out a place higher. The row
+-- put in came from nowhere; no claim asks for it.
 unfoldable pub came : Call → ℕ → ℕ
 came render i = i
 came (edit k row) i = i
@@ -158,11 +159,12 @@ lowestStop n (edit k row) = k + 1
 lowestStop n (insert p row) = p + 1
 lowestStop n (remove p) = p
 
--- The smallest j from `low` on that is the end, or whose row restarts, or before which the state's words are the same, by `old` and by `new`,
--- which say the words of the state before a row, where it came from and where it is.
+-- Before row j a call may stop: it is the end, or its row restarts, or the state's words before it are the same, by `old` and by `new`, which say
+-- them where the row came from and where it is.
 abbrev pub Stop : ℕ → List ℕ → (ℕ → List ℕ) → (ℕ → List ℕ) → ℕ → Type 0
 Stop n rows old new j = (j ≡ n) ⊎ ((wordFor restart (rowAt rows j) ≡ 1) ⊎ (old j ≡ new j))
 
+-- The smallest such j from `low` on.
 pub record First (n : ℕ) (rows : List ℕ) (old new : ℕ → List ℕ) (low j : ℕ) : Type 0 where
   pub least : low ≤ j
   pub most : j ≤ n
@@ -179,19 +181,19 @@ pub record Past (frames n : ℕ) (old new : Take) : Type 0 where
   pub aux : drop (n * frames) (new .aux) ≡ drop (n * frames) (old .aux)
   pub kept : drop (n * keptCount) (new .kept) ≡ drop (n * keptCount) (old .kept)
 
--- The call reports the rows from its position to before row j, and what they hold. It leaves the lent row words with its score in them. The other
--- rows of the take are as they were, each where it came from, and so is what lies past the count.
+-- The call reports the rows from its position to before row j, and what they hold. Its score is laid over the lent row words. Every other row of the
+-- take has the words that it had where it came from, and past the new count every word stays.
 pub record Writes (s : Setup) (o : Reel) (c : Call) (j : ℕ) (holds : Holds) : Type 0 where
   pub reports : called s o c .answer ≡ Done (record { rows = j - position c; holds = holds })
   pub count : next s o c .count ≡ countAfter (o .count) c
-  pub score : next s o c .score ≡ put (o .score) 0 (scoreWith (scoreOf o) c)
+  pub rows : next s o c .rows ≡ put (o .rows) 0 (scoreWith (scoreOf o) c)
   pub others : (i : ℕ) → (i < position c) ⊎ (j ≤ i) → i < next s o c .count → wordsAt (s .frames) (next s o c .left) i ≡ wordsAt (s .frames) (o .left) (came c i)
   pub past : Past (s .frames) (next s o c .count) (o .left) (next s o c .left)
 
 -- An edit that changes no word.
 unfoldable pub Unchanging : Reel → Call → Type 0
 Unchanging o render = ⊥
-Unchanging o (edit k row) = rowAt (o .score) k ≡ row
+Unchanging o (edit k row) = rowAt (o .rows) k ≡ row
 Unchanging o (insert p row) = ⊥
 Unchanging o (remove p) = ⊥
 
@@ -215,11 +217,11 @@ madeFrom s rows kept (suc l) i = rowIn s rows kept i ∷ madeFrom s rows kept l 
 pub record Retaken (s : Setup) (o : Reel) (c : Call) : Type 0 where
   pub stop : ℕ
   pub first : let o' = next s o c in
-      First (o' .count) (o' .score) (λ j. wordsBefore s (o .left .kept) (came c j)) (wordsBefore s (o' .left .kept)) (lowestStop (o .count) c) stop
+      First (o' .count) (o' .rows) (λ j. wordsBefore s (o .left .kept) (came c j)) (wordsBefore s (o' .left .kept)) (lowestStop (o .count) c) stop
   pub made : let o' = next s o c in
-      (i : ℕ) → position c ≤ i → i < stop → wordsAt (s .frames) (o' .left) i ≡ rowIn s (o' .score) (o' .left .kept) i .words
+      (i : ℕ) → position c ≤ i → i < stop → wordsAt (s .frames) (o' .left) i ≡ rowIn s (o' .rows) (o' .left .kept) i .words
   pub writes : let o' = next s o c in
-      Writes s o c stop (holdsOf (madeFrom s (o' .score) (o' .left .kept) (stop - position c) (position c)))
+      Writes s o c stop (holdsOf (madeFrom s (o' .rows) (o' .left .kept) (stop - position c) (position c)))
 
 abbrev pub Retakes : Type 0
 Retakes = (s : Setup) (o : Reel) (c : Call) → Five c → Right s o c (Retaken s o c)
@@ -227,8 +229,8 @@ Retakes = (s : Setup) (o : Reel) (c : Call) → Five c → Right s o c (Retaken 
 -- ---- Takes of a list.
 
 -- Where the take is that of a fresh rendering, "the smallest j .. where j is n, or row j restarts, or the fresh renderings of the score before and
--- after this [call] keep the same 13 words" before it, there where it came from and here; "and as `held` the sum over these rows in the fresh
--- rendering of the score after it".
+-- after this [call] keep the same 13 words" before row j, in the first of them where it came from; "and as `held` the sum over these rows in the
+-- fresh rendering of the score after it".
 pub record FreshRetaken (s : Setup) (o : Reel) (c : Call) : Type 0 where
   pub stop : ℕ
   pub first : let o' = next s o c in
@@ -244,8 +246,8 @@ EachRight s o (c ∷ cs) = Right s o c (FreshRetaken s o c) × EachRight s (next
 abbrev pub cut : Setup → ℕ → Take → Take
 cut s n t = lent (take (n * s .frames) (t .out)) (take (n * s .frames) (t .aux)) (take (n * keptCount) (t .kept))
 
--- After the rendering and the list: score and take, to the last lent word, are what they are to be; so the rows below the count are those of a
--- fresh rendering of the resulting score; the rendering reported all its rows and what they hold; and each call of the list was right.
+-- After the rendering and the list: count, row words and take are, to the last lent word, those expected; so the rows below the count are those of
+-- a fresh rendering of the resulting score; the rendering reported all its rows and what they hold; and each call of the list was right.
 pub record Promise (s : Setup) (o : Reel) (cs : List Call) : Type 0 where
   pub all : after s o (render ∷ cs) ≡ expected s o (render ∷ cs)
   pub below : let o' = after s o (render ∷ cs) in cut s (o' .count) (o' .left) ≡ takeOf (freshOf s o')
@@ -256,8 +258,8 @@ pub record Promise (s : Setup) (o : Reel) (cs : List Call) : Type 0 where
 abbrev pub Accepted : Setup → Reel → Type 0
 Accepted s o = resultOf (called s o render .answer) .number ≡ 0
 
--- "For every accepted whole rendering and every list of row edits after it, refused edits included", into which "may mix .. insertions and
--- removals", and further renderings; of any words in the lent take and past the count.
+-- "For every accepted whole rendering and every list of row edits after it, refused edits included"; such lists "may mix in insertions and
+-- removals", and here renderings. The lent take, and all that is lent past the count, may hold any words.
 abbrev pub Demand3 : Type 0
 Demand3 = (s : Setup) (o : Reel) (cs : List Call) → Fives cs → Accepted s o → Promise s o cs
 

@@ -1,4 +1,5 @@
--- Document 01, "Rows, states, retakes": a row made from the 13 words kept before it, its words put into a take, and runs of rows.
+-- Document 01, "Rows, states, retakes", and document 02: a row made from the 13 words kept before it, its words put into a take, places moved, and
+-- runs of rows.
 use Prim.Native.Nat.{ℕ, zero, suc, _+_, _*_}
 use mathlib.Core.List.{List}
 use mathlib.Core.Bool.{Bool, cond, _||_}
@@ -102,8 +103,8 @@ putWords frames t i w =
 
 -- ---- Places moved: "Inserting moves later rows, blocks and states up by one place; removing moves them down."
 
--- The kept words of n rows with a place made for row p. There stand the words of the state before it: so the row behind has before it what it
--- had where it came from.
+-- The kept words of n rows with a place made for row p. Until it is rendered, the words of the state before it stand there: so the row behind is
+-- "measured against the state before [it] where [it] came from".
 abbrev pub keptRoom : State → ℕ → List ℕ → ℕ → List ℕ
 keptRoom fresh n kept p = put (shiftUp keptCount kept p n) (p * keptCount) (beforeRow fresh kept p)
 
@@ -141,7 +142,7 @@ idle t = reported nothing t
 abbrev pub after : Report → Run → Run
 after p r = reported (both p (r .report)) (r .left)
 
--- Whether a run stops before row j of n, where `unchanged` says that the 13 words kept after row j - 1 are those that stood there: "up to the
+-- Whether a run stops before row j of n, where `unchanged` says that the 13 words before it are those that it had where it came from: "up to the
 -- first row j that restarts or for which the 13 words kept after j - 1 are the same as before the edit", or to the end.
 unfoldable pub stopsOf : ℕ → List ℕ → ℕ → Bool → Bool
 stopsOf n rows j unchanged = eqb j n || (restarts (rowAt rows j) || unchanged)

@@ -121,7 +121,7 @@ pub fn make_room(instrument: u32, rate: u32, kept: &mut [u32], n: usize, p: usiz
     let _same = keep(before, p, kept);
 }
 
-// Whether a run stops before row j of n, told whether the words kept before it are as they were.
+// Whether a run stops before row j of n, told whether the words before it are those that it had where it came from.
 pub fn stops(rows: &[u32], n: usize, j: usize, same: bool) -> bool
     requires { ⌜ (j ≤ n) × (n ≤ mostRows) ⌝ }
     requires { ⌜ n * rowWords ≤ length (now rows) ⌝ }

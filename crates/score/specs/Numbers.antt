@@ -5,7 +5,7 @@ use Rattle.score.specs.declared.refusal.Refusal.{Refusal}
 
 -- ---- the table
 
--- "instrument: not 0 wavetable, 1 terrain, 2 terrain with map"
+-- "instrument: not 0 wavetable, 1 terrain, 2 terrain with map"; "Number 1 now means above 3"
 abbrev pub instrumentNumber : ℕ
 instrumentNumber = 1
 
@@ -21,7 +21,7 @@ blockNumber = 3
 abbrev pub bankNumber : ℕ
 bankNumber = 4
 
--- "map: length not 4,096 for 2, not 0 for 0 and 1"
+-- "map: length not 4,096 for 2, not 0 for 0 and 1", nor for 3
 abbrev pub mapNumber : ℕ
 mapNumber = 5
 
@@ -34,6 +34,7 @@ abbrev pub takeNumber : ℕ
 takeNumber = 7
 
 -- "position: edited row not below the row count"; "An insertion's position may equal the count; a higher one gives 8."
+-- A removed row as an edited one.
 abbrev pub positionNumber : ℕ
 positionNumber = 8
 

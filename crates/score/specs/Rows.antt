@@ -1,4 +1,4 @@
--- Document 01, "Rows, states, retakes": a score's rows, as words one row after the other.
+-- Document 01, "Rows, states, retakes", and document 02: a score's rows, as words one row after the other.
 use Prim.Native.Nat.{ℕ, _*_}
 use mathlib.Core.Bool.{Bool}
 use mathlib.Core.List.{List, [], _∷_}

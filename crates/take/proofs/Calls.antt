@@ -2,7 +2,7 @@
 use mathlib.Core.Path.{_≡_, refl, sym, ap, _∙_}
 use mathlib.Core.List.{List}
 use mathlib.Core.Bool.{Bool, true, false, cond}
-use Prim.Native.Nat.{ℕ, suc, _+_, _-_, _*_, _≤_, _<_}
+use Prim.Native.Nat.{ℕ, _+_, _-_, _*_, _≤_, _<_}
 use native.Mathlib.Nat.{mul-le-mul-right}
 use native.Mathlib.Omega.{arith}
 use borrow.Author.Tests.{eq-eqb, ne-eqb, ltb-false}
@@ -10,16 +10,15 @@ use lib.ListN.{length}
 use Rattle.lists.specs.Lists.{same}
 use Rattle.lists.proofs.Copying.{same-eq}
 use Rattle.lists.proofs.Places.{put-same}
-use Rattle.voice.specs.declared.State.{State}
 use Rattle.score.specs.declared.refusal.Refusal.{Refusal}
 use Rattle.score.specs.Rows.{rowWords, rowAt, putRow, insertRow, removeRow}
 use Rattle.rows.specs.declared.Report.{Report}
-use Rattle.rows.specs.Rows.{Setup, Take, lent, freshStart, keptAt, beforeRow, wordsBefore, roomAt, closedAt, Run, nothing, reported, idle, stopsOf, runOf}
+use Rattle.rows.specs.Rows.{Setup, Take, lent, freshStart, wordsBefore, roomAt, closedAt, Run, nothing, reported, idle, stopsOf, runOf}
 use Rattle.runs.specs.Inner.{Holding}
 use Rattle.refusals.specs.Calls.{Call, render, edit, insert, remove, countAfter, rowsAfter, position, leastCount, largestCount}
 use Rattle.refusals.specs.Refusals.{wrongPosition, full, refusalOf}
 use Rattle.take.specs.declared.Answer.the-variants.{Done, Refused}
-use Rattle.take.specs.Take.{Outcome, outcome, refusedBy, ran, movedBy, firstAsked, nothingToDo, doneOf, callOf}
+use Rattle.take.specs.Take.{Outcome, outcome, refusedBy, ran, movedBy, stretchEnd, rendersNothing, doneOf, callOf}
 use Rattle.take.specs.Inner.{Retakable, Insertable, Removable}
 use Rattle.refusals.proofs.Accepted.{Usable, Accepted, accepted, is-below, spare-right}
 
@@ -97,14 +96,6 @@ module _ (s : Setup) (n : ℕ) (rows : List ℕ) (t : Take) where
 pub lent-is : (out out' aux aux' kept kept' : List ℕ) → out' ≡ out → aux' ≡ aux → kept' ≡ kept → lent out' aux' kept' ≡ lent out aux kept
 lent-is out out' aux aux' kept kept' o a k = rw (o, a, k)
 
--- The words kept after a row are those before the next.
-pub trace-is : (fresh : State) (kept : List ℕ) (p : ℕ) (had has : List ℕ) (r : Bool) → had ≡ beforeRow fresh kept (p + 1) → has ≡ beforeRow fresh kept p → r ≡ same had has
-    → r ≡ same (keptAt kept p) (beforeRow fresh kept p)
-trace-is fresh kept p had has r e f q = q ∙ ap (λ (x : List ℕ). same x has) (e ∙ next (p + 1) (omega arith)) ∙ ap (λ (x : List ℕ). same (keptAt kept p) x) f
-  where
-    next : (i : ℕ) → i ≡ suc p → beforeRow fresh kept i ≡ keptAt kept p
-    next i h = unfold beforeRow in rw h
-
 -- ---- What a call does.
 
 -- Lent words of the same lengths hold the rows too.
@@ -136,13 +127,13 @@ fewer-holding frames n rows t h =
 
 module _ (s : Setup) (n : ℕ) (rows : List ℕ) (t : Take) where
   pub render-does : (p : Report) (left : Take) → reported p left ≡ runOf s rows n n 0 n t → ran rows (reported p left) ≡ doneOf s n rows t render
-  unfolding doneOf countAfter rowsAfter movedBy nothingToDo position firstAsked
+  unfolding doneOf countAfter rowsAfter movedBy rendersNothing position stretchEnd
   render-does p left q = ap (λ (x : Run). ran rows x) q
 
   module _ (k : ℕ) (row : List ℕ) where
     -- Equal words: nothing is written.
     pub edit-idles : length row ≡ rowWords → (p : Report) → same (rowAt rows k) row ≡ true → p ≡ nothing → ran rows (reported p t) ≡ doneOf s n rows t (edit k row)
-    unfolding doneOf countAfter rowsAfter movedBy nothingToDo position firstAsked
+    unfolding doneOf countAfter rowsAfter movedBy rendersNothing position stretchEnd
     edit-idles five p w e =
         ap (λ (x : Report). ran rows (reported x t)) e
         ∙ ap (λ (x : List ℕ). ran x (idle t)) (sym (put-same rows row (k * rowWords) rowWords five (same-eq (rowAt rows k) row w)))
@@ -150,27 +141,27 @@ module _ (s : Setup) (n : ℕ) (rows : List ℕ) (t : Take) where
 
     pub edit-does : (p : Report) (new : List ℕ) (left : Take) → same (rowAt rows k) row ≡ false → new ≡ putRow rows k row
         → reported p left ≡ runOf s new n n k (k + 1) t → ran new (reported p left) ≡ doneOf s n rows t (edit k row)
-    unfolding doneOf countAfter rowsAfter movedBy nothingToDo position firstAsked
+    unfolding doneOf countAfter rowsAfter movedBy rendersNothing position stretchEnd
     edit-does p new left w e q = rw e (ap (λ (x : Run). ran (putRow rows k row) x) (rw e at q) ∙ rw w)
 
   module _ (p : ℕ) (row : List ℕ) where
     pub insert-does : (r : Report) (new : List ℕ) (moved left : Take) → new ≡ insertRow n rows p row → moved ≡ roomAt (s .frames) (freshStart s) n t p
         → reported r left ≡ runOf s new (n + 1) (n + 1) p (p + 1) moved → ran new (reported r left) ≡ doneOf s n rows t (insert p row)
-    unfolding doneOf countAfter rowsAfter movedBy nothingToDo position firstAsked
+    unfolding doneOf countAfter rowsAfter movedBy rendersNothing position stretchEnd
     insert-does r new moved left e m q = rw e (ap (λ (x : Run). ran (insertRow n rows p row) x) (rw (e, m) at q))
 
-  module _ (p : ℕ) (unchanged : Bool) (b : unchanged ≡ same (keptAt (t .kept) p) (wordsBefore s (t .kept) p)) (new : List ℕ) (e : new ≡ removeRow n rows p)
+  module _ (p : ℕ) (unchanged : Bool) (b : unchanged ≡ same (wordsBefore s (t .kept) (p + 1)) (wordsBefore s (t .kept) p)) (new : List ℕ) (e : new ≡ removeRow n rows p)
       (moved : Take) (m : moved ≡ closedAt (s .frames) n t p) where
-    stop-is : (x : Bool) → x ≡ stopsOf (n - 1) new p unchanged → nothingToDo s n rows t (remove p) ≡ x
-    unfolding nothingToDo
+    stop-is : (x : Bool) → x ≡ stopsOf (n - 1) new p unchanged → rendersNothing s n rows t (remove p) ≡ x
+    unfolding rendersNothing
     stop-is x q = sym (q ∙ rw (e, b))
 
     pub remove-idles : (x : Bool) → x ≡ stopsOf (n - 1) new p unchanged → x ≡ true → (r : Report) → r ≡ nothing
         → ran new (reported r moved) ≡ doneOf s n rows t (remove p)
-    unfolding doneOf countAfter rowsAfter movedBy position firstAsked
+    unfolding doneOf countAfter rowsAfter movedBy position stretchEnd
     remove-idles x q y r z = rw (z, e, m, stop-is x q, y)
 
     pub remove-does : (x : Bool) → x ≡ stopsOf (n - 1) new p unchanged → x ≡ false → (r : Report) (left : Take)
         → reported r left ≡ runOf s new (n - 1) (n - 1) p (p + 1) moved → ran new (reported r left) ≡ doneOf s n rows t (remove p)
-    unfolding doneOf countAfter rowsAfter movedBy position firstAsked
+    unfolding doneOf countAfter rowsAfter movedBy position stretchEnd
     remove-does x q y r left z = rw (e, stop-is x q, y) (ap (λ (w : Run). ran (removeRow n rows p) w) (rw (e, m) at z))

@@ -8,7 +8,7 @@ use Rattle.lists.specs.Lists.{same}
 use Rattle.score.specs.Rows.{rowAt, removeRow}
 use Rattle.score.specs.Numbers.{Result, done, refused}
 use Rattle.score.specs.declared.refusal.Refusal.{Refusal}
-use Rattle.rows.specs.Rows.{Setup, Take, freshStart, keptAt, wordsBefore, roomAt, closedAt, Run, idle, stopsOf, runOf}
+use Rattle.rows.specs.Rows.{Setup, Take, freshStart, wordsBefore, roomAt, closedAt, Run, idle, stopsOf, runOf}
 use Rattle.refusals.specs.Calls.{Call, render, edit, insert, remove, countAfter, rowsAfter, position}
 use Rattle.refusals.specs.Refusals.{refusalOf}
 use Rattle.take.specs.declared.Answer.{Answer}
@@ -19,14 +19,14 @@ unfoldable pub resultOf : Answer → Result
 resultOf (Done report) = done (report .rows ∷ report .holds .held ∷ [])
 resultOf (Refused r) = refused r
 
--- What a call answers, and the score and the take as it leaves them.
+-- What a call answers, and the lent row words and the take as it leaves them.
 pub record Outcome : Type 0 where
   pub answer : Answer
-  pub score : List ℕ
+  pub rows : List ℕ
   pub left : Take
 
 abbrev pub outcome : Answer → List ℕ → Take → Outcome
-outcome answer rows t = record { answer = answer; score = rows; left = t }
+outcome answer rows t = record { answer = answer; rows = rows; left = t }
 
 -- A refused call changes no lent buffer.
 abbrev pub refusedBy : Refusal → List ℕ → Take → Outcome
@@ -45,28 +45,28 @@ movedBy s n t (edit k row) = t
 movedBy s n t (insert p row) = roomAt (s .frames) (freshStart s) n t p
 movedBy s n t (remove p) = closedAt (s .frames) n t p
 
--- Rendering starts at the call's position, and whether to stop is first asked before this row: after all rows of a whole rendering; else after
--- the one row from which "Rendering starts .. and stops as for an edit".
-unfoldable pub firstAsked : ℕ → Call → ℕ
-firstAsked n render = n
-firstAsked n (edit k row) = k + 1
-firstAsked n (insert p row) = p + 1
-firstAsked n (remove p) = p + 1
+-- Rendering starts at the call's position. The end of the stretch that is rendered before a run asks whether to stop: all rows of a whole rendering;
+-- else the one row where "Rendering starts".
+unfoldable pub stretchEnd : ℕ → Call → ℕ
+stretchEnd n render = n
+stretchEnd n (edit k row) = k + 1
+stretchEnd n (insert p row) = p + 1
+stretchEnd n (remove p) = p + 1
 
--- Whether nothing is rendered. An edit: "If all five words are equal, nothing is written." A removal stops at once where the row now in the
--- place, "measured against the state before [it] where [it] came from", does: these are the removed row's own kept words.
-unfoldable pub nothingToDo : Setup → ℕ → List ℕ → Take → Call → Bool
-nothingToDo s n rows t render = false
-nothingToDo s n rows t (edit k row) = same (rowAt rows k) row
-nothingToDo s n rows t (insert p row) = false
-nothingToDo s n rows t (remove p) = stopsOf (n - 1) (removeRow n rows p) p (same (keptAt (t .kept) p) (wordsBefore s (t .kept) p))
+-- Whether nothing is rendered. An edit: "If all five words are equal, nothing is written." A removal: where a run would stop before "the row now
+-- there", "measured against the state before [it] where [it] came from", which was row p + 1.
+unfoldable pub rendersNothing : Setup → ℕ → List ℕ → Take → Call → Bool
+rendersNothing s n rows t render = false
+rendersNothing s n rows t (edit k row) = same (rowAt rows k) row
+rendersNothing s n rows t (insert p row) = false
+rendersNothing s n rows t (remove p) = stopsOf (n - 1) (removeRow n rows p) p (same (wordsBefore s (t .kept) (p + 1)) (wordsBefore s (t .kept) p))
 
 unfoldable pub doneOf : Setup → ℕ → List ℕ → Take → Call → Outcome
 doneOf s n rows t c =
     let n' = countAfter n c in
     let rows' = rowsAfter n rows c in
     let t' = movedBy s n t c in
-    ran rows' (cond (nothingToDo s n rows t c) (idle t') (runOf s rows' n' n' (position c) (firstAsked n c) t'))
+    ran rows' (cond (rendersNothing s n rows t c) (idle t') (runOf s rows' n' n' (position c) (stretchEnd n c) t'))
 
 -- ---- A call.
 

@@ -7,7 +7,7 @@ ghost use Rattle.lists.specs.Lists.{same};
 ghost use Rattle.utils.specs.Units.{a0Of};
 ghost use Rattle.score.specs.Rows.{mostRows};
 ghost use Rattle.voice.specs.Voice.{Lent, keptCount, voiceOf, freshState};
-ghost use Rattle.rows.specs.Rows.{setup, lent, keptAt, beforeRow, roomAt, closedAt, reported};
+ghost use Rattle.rows.specs.Rows.{setup, lent, beforeRow, roomAt, closedAt, reported};
 ghost use Rattle.refusals.specs.Calls.{render, edit, insert, remove};
 ghost use Rattle.take.specs.Take.{outcome, ran, doneOf, callOf};
 ghost use Rattle.take.specs.Inner.{Retakable, Insertable, Removable};
@@ -47,7 +47,7 @@ pub fn render(
     Answer::Done(report)
 }
 
-// A row's words in the place of a row's, and what depends on it rendered again; nothing where the words are equal.
+// Row `position` gets other words, and what depends on it is rendered again; nothing where the words are equal.
 fn retake(
     settings: Settings,
     bank: &[i16],
@@ -259,10 +259,13 @@ fn close_room(frames: usize, n: usize, p: usize, out: &mut [u32], aux: &mut [u32
     lists::shift_down(kept, KEPT_WORDS, p, n);
 }
 
-// Whether the state before row p is the one kept after it: so it was before the row behind it.
-fn leaves_no_trace(settings: Settings, kept: &[u32], p: usize) -> bool
+// Whether row p keeps the words of the state before it: then the row behind it has, once p is taken out, the state before it that it had.
+fn keeps_its_state(settings: Settings, kept: &[u32], p: usize) -> bool
     requires { ⌜ (p < mostRows) × ((p + 1) * keptCount ≤ length (now kept)) ⌝ }
-    ensures { λ r. ⌜ r ≡ same (keptAt (now (kept .entry)) p) (beforeRow (freshState (voiceOf (settings .instrument)) (a0Of (settings .rate))) (now (kept .entry)) p) ⌝ }
+    ensures { λ r. ⌜
+        r
+        ≡ same (beforeRow (freshState (voiceOf (settings .instrument)) (a0Of (settings .rate))) (now (kept .entry)) (p + 1))
+        (beforeRow (freshState (voiceOf (settings .instrument)) (a0Of (settings .rate))) (now (kept .entry)) p) ⌝ }
 {
     let next = p + 1;
     let had = rows::words_before(settings.instrument, settings.rate, kept, next);
@@ -270,7 +273,7 @@ fn leaves_no_trace(settings: Settings, kept: &[u32], p: usize) -> bool
     lists::same_words(&had, &has)
 }
 
-// A row taken out, and what depends on that rendered again, unless the row behind it is as it was.
+// A row taken out, and what depends on that rendered again: nothing where a run would stop before the row now there.
 fn take_out(
     settings: Settings,
     bank: &[i16],
@@ -289,7 +292,7 @@ fn take_out(
         ≡ doneOf (setup settings (now (bank .entry)) (now (map .entry))) count (now (rows .entry))
         (lent (now (out .entry)) (now (aux .entry)) (now (kept .entry))) (remove position) ⌝ }
 {
-    let same = leaves_no_trace(settings, kept, position);
+    let same = keeps_its_state(settings, kept, position);
     score::rows::remove_row(rows, count, position);
     close_room(settings.frames, count, position, out, aux, kept);
     let fewer = count - 1;

@@ -1,4 +1,4 @@
--- `move_down` moves the words a handful at a time (`MovedDown`).
+-- `move_down` moves the words a chunk at a time (`MovedDown`).
 use Prim.Native.Nat.{_-_}
 use native.Mathlib.Omega.{arith}
 use mathlib.Core.Path.{_≡_, refl, _∙_}
@@ -9,28 +9,28 @@ use Rattle.lists.proofs.move_down.Statement.{statement}
 use Rattle.lists.proofs.move_down.Tie as tie
 
 abbrev Inv-loop : tie.InvT-loop
-Inv-loop words₀ from end by hand₀ at₀ words hand at = MovedDown words₀ words from end by at × (length hand ≡ 64)
+Inv-loop words₀ from end by buffer₀ at₀ words buffer at = MovedDown words₀ words from end by at × (length buffer ≡ 64)
 
 abbrev μ-loop : tie.MeasureT-loop
-μ-loop words₀ from end by hand₀ at₀ words hand at = end - at
+μ-loop words₀ from end by buffer₀ at₀ words buffer at = end - at
 
 loop-holds : tie.Need-loop-holds Inv-loop μ-loop
 loop-holds c = (down-none _ _ _ _ (c .before .pre .1 .0), refl)
 
-sub-handful : tie.Need-sub-handful Inv-loop μ-loop
-sub-handful c = search needs
+sub-chunk-length : tie.Need-sub-chunk-length Inv-loop μ-loop
+sub-chunk-length c = search needs
 
-handful-requires : tie.Need-handful-requires Inv-loop μ-loop
-handful-requires c κs = search needs
+chunk-length-requires : tie.Need-chunk-length-requires Inv-loop μ-loop
+chunk-length-requires c κs = search needs
 
 sub-to : tie.Need-sub-to Inv-loop μ-loop
 sub-to c = search needs
 
-slice-aggregate-move-few : tie.Need-slice-aggregate-move-few Inv-loop μ-loop
-slice-aggregate-move-few c = search needs
+slice-aggregate-move-chunk : tie.Need-slice-aggregate-move-chunk Inv-loop μ-loop
+slice-aggregate-move-chunk c = search needs
 
-move-few-requires : tie.Need-move-few-requires Inv-loop μ-loop
-move-few-requires c κs = search needs
+move-chunk-requires : tie.Need-move-chunk-requires Inv-loop μ-loop
+move-chunk-requires c κs = search needs
 
 add-at : tie.Need-add-at Inv-loop μ-loop
 add-at c = search needs
@@ -41,8 +41,8 @@ loop-less c = search needs
 loop-again : tie.Need-loop-again Inv-loop μ-loop
 loop-again c =
     let turn = c .before .before .before .before .before .before .before .before in
-    let moved = c .before .before .before .move-few in
-    let count = c .before .before .before .before .before .before .handful .ensures in
+    let moved = c .before .before .before .move-chunk in
+    let count = c .before .before .before .before .before .before .chunk-length .ensures in
     let pre = turn .before .before .pre in
     ((rw (moved .ensures) (down-more _ _ _ _ _ _ _ (pre .0) (pre .1 .1) (omega (arith, count .1 .0)) (turn .loop .inv .0))), moved .kept .1 .1 .1 .1 .0 ∙ turn .loop .inv .1)
 
@@ -59,11 +59,11 @@ move-down-spec =
     Inv-loop
     μ-loop
     loop-holds
-    sub-handful
-    handful-requires
+    sub-chunk-length
+    chunk-length-requires
     sub-to
-    slice-aggregate-move-few
-    move-few-requires
+    slice-aggregate-move-chunk
+    move-chunk-requires
     add-at
     loop-less
     loop-again

@@ -1,4 +1,4 @@
--- `move_up` moves the words a handful at a time (`MovedUp`).
+-- `move_up` moves the words a chunk at a time (`MovedUp`).
 use Prim.Native.Nat.{_-_}
 use native.Mathlib.Omega.{arith}
 use mathlib.Core.Path.{_≡_, refl, _∙_}
@@ -9,19 +9,19 @@ use Rattle.lists.proofs.move_up.Statement.{statement}
 use Rattle.lists.proofs.move_up.Tie as tie
 
 abbrev Inv-loop : tie.InvT-loop
-Inv-loop words₀ from end by hand₀ at₀ words hand at = MovedUp words₀ words from end by at × (length hand ≡ 64)
+Inv-loop words₀ from end by buffer₀ at₀ words buffer at = MovedUp words₀ words from end by at × (length buffer ≡ 64)
 
 abbrev μ-loop : tie.MeasureT-loop
-μ-loop words₀ from end by hand₀ at₀ words hand at = at - from
+μ-loop words₀ from end by buffer₀ at₀ words buffer at = at - from
 
 loop-holds : tie.Need-loop-holds Inv-loop μ-loop
 loop-holds c = (up-none _ _ _ _ (c .before .pre .0), refl)
 
-sub-handful : tie.Need-sub-handful Inv-loop μ-loop
-sub-handful c = search needs
+sub-chunk-length : tie.Need-sub-chunk-length Inv-loop μ-loop
+sub-chunk-length c = search needs
 
-handful-requires : tie.Need-handful-requires Inv-loop μ-loop
-handful-requires c κs = search needs
+chunk-length-requires : tie.Need-chunk-length-requires Inv-loop μ-loop
+chunk-length-requires c κs = search needs
 
 sub-at : tie.Need-sub-at Inv-loop μ-loop
 sub-at c = search needs
@@ -29,11 +29,11 @@ sub-at c = search needs
 add-to : tie.Need-add-to Inv-loop μ-loop
 add-to c = search needs
 
-slice-aggregate-move-few : tie.Need-slice-aggregate-move-few Inv-loop μ-loop
-slice-aggregate-move-few c = search needs
+slice-aggregate-move-chunk : tie.Need-slice-aggregate-move-chunk Inv-loop μ-loop
+slice-aggregate-move-chunk c = search needs
 
-move-few-requires : tie.Need-move-few-requires Inv-loop μ-loop
-move-few-requires c κs = search needs
+move-chunk-requires : tie.Need-move-chunk-requires Inv-loop μ-loop
+move-chunk-requires c κs = search needs
 
 loop-less : tie.Need-loop-less Inv-loop μ-loop
 loop-less c = search needs
@@ -41,8 +41,8 @@ loop-less c = search needs
 loop-again : tie.Need-loop-again Inv-loop μ-loop
 loop-again c =
     let turn = c .before .before .before .before .before .before .before .before in
-    let moved = c .before .before .before .move-few in
-    let count = c .before .before .before .before .before .before .handful .ensures in
+    let moved = c .before .before .before .move-chunk in
+    let count = c .before .before .before .before .before .before .chunk-length .ensures in
     let pre = turn .before .before .pre in
     ((rw (moved .ensures) (up-more _ _ _ _ _ _ _ (pre .1) (omega (arith, count .1 .0, turn .loop .inv .0 .since)) (turn .loop .inv .0))), moved .kept .1 .1 .1 .1 .0 ∙ turn .loop .inv .1)
 
@@ -59,12 +59,12 @@ move-up-spec =
     Inv-loop
     μ-loop
     loop-holds
-    sub-handful
-    handful-requires
+    sub-chunk-length
+    chunk-length-requires
     sub-at
     add-to
-    slice-aggregate-move-few
-    move-few-requires
+    slice-aggregate-move-chunk
+    move-chunk-requires
     loop-less
     loop-again
     same-length

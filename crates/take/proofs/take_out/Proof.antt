@@ -7,8 +7,8 @@ use borrow.Author.Needs.{needs}
 use Rattle.take.proofs.take_out.Statement.{statement}
 use Rattle.take.proofs.take_out.Tie as tie
 
-leaves-no-trace-requires : tie.Need-leaves-no-trace-requires
-leaves-no-trace-requires c κs = search needs
+keeps-its-state-requires : tie.Need-keeps-its-state-requires
+keeps-its-state-requires c κs = search needs
 
 remove-row-requires : tie.Need-remove-row-requires
 remove-row-requires c κs = search needs
@@ -43,7 +43,7 @@ returns c =
     let room = test .before .before .before .before .before .before .before .before in
     let row = room .before .before .before .before .before .before in
     let trace = row .before .before in
-    remove-idles _ _ _ _ _ _ (trace .leaves-no-trace .ensures) _ (row .remove-row .ensures) _ (room .close-room .ensures) _ (test .stops .ensures) (c .before .if1 .taken) _ (c .nothing .ensures)
+    remove-idles _ _ _ _ _ _ (trace .keeps-its-state .ensures) _ (row .remove-row .ensures) _ (room .close-room .ensures) _ (test .stops .ensures) (c .before .if1 .taken) _ (c .nothing .ensures)
 
 add-next : tie.Need-add-next
 add-next c = search needs
@@ -78,13 +78,13 @@ returns-2 c =
     let room = test .before .before .before .before .before .before .before .before in
     let row = room .before .before .before .before .before .before in
     let trace = row .before .before in
-    remove-does _ _ _ _ _ _ (trace .leaves-no-trace .ensures) _ (row .remove-row .ensures) _ (room .close-room .ensures) _ (test .stops .ensures) (run .before .before .before .before .before .if1 .left) _ _ (run .run .ensures)
+    remove-does _ _ _ _ _ _ (trace .keeps-its-state .ensures) _ (row .remove-row .ensures) _ (room .close-room .ensures) _ (test .stops .ensures) (run .before .before .before .before .before .if1 .left) _ _ (run .run .ensures)
 
 pub take-out-spec : {M : Type 1} → statement M
 take-out-spec =
     tie.close
     (tie.spec
-    leaves-no-trace-requires
+    keeps-its-state-requires
     remove-row-requires
     close-room-requires
     sub-fewer

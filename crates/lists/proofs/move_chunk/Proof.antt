@@ -1,8 +1,8 @@
--- `move_few` puts the words in their new place: copied into a hand, and from there.
-use Rattle.lists.proofs.Moving.{few-moved}
+-- `move_chunk` puts the words in their new place: copied into a buffer, and from there.
+use Rattle.lists.proofs.Moving.{chunk-moved}
 use borrow.Author.Needs.{needs}
-use Rattle.lists.proofs.move_few.Statement.{statement}
-use Rattle.lists.proofs.move_few.Tie as tie
+use Rattle.lists.proofs.move_chunk.Statement.{statement}
+use Rattle.lists.proofs.move_chunk.Tie as tie
 
 add-from-end : tie.Need-add-from-end
 add-from-end c = search needs
@@ -69,10 +69,10 @@ returns c =
     let second = c .before .before in
     let first = second .before .before .before .before .before .before in
     let entry = first .before .before .before .before .before .before in
-    few-moved (entry .args .words .now) (entry .args .hand .now) _ _ _ _ _ (entry .pre .1 .0) (entry .pre .1 .1) (first .copy-words .ensures) (second .copy-words2 .ensures)
+    chunk-moved (entry .args .words .now) (entry .args .buffer .now) _ _ _ _ _ (entry .pre .1 .0) (entry .pre .1 .1) (first .copy-words .ensures) (second .copy-words2 .ensures)
 
-pub move-few-spec : {M : Type 1} → statement M
-move-few-spec =
+pub move-chunk-spec : {M : Type 1} → statement M
+move-chunk-spec =
     tie.close
     (tie.spec
     add-from-end

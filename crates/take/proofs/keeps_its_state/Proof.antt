@@ -1,8 +1,8 @@
--- `leaves_no_trace` compares the words kept after the row with those before it.
-use Rattle.take.proofs.Calls.{trace-is}
+-- `keeps_its_state` compares the words before the next row with those before the row.
+use mathlib.Core.Path.{_∙_}
 use borrow.Author.Needs.{needs}
-use Rattle.take.proofs.leaves_no_trace.Statement.{statement}
-use Rattle.take.proofs.leaves_no_trace.Tie as tie
+use Rattle.take.proofs.keeps_its_state.Statement.{statement}
+use Rattle.take.proofs.keeps_its_state.Tie as tie
 
 add-next : tie.Need-add-next
 add-next c = search needs
@@ -25,10 +25,10 @@ same-words-requires c κs = search needs
 returns : tie.Need-returns
 returns c =
     let has = c .before .before .before in
-    trace-is _ _ _ _ _ _ (has .before .words-before .ensures) (has .words-before2 .ensures) (c .same-words .ensures)
+    c .same-words .ensures ∙ rw (has .before .words-before .ensures, has .words-before2 .ensures)
 
-pub leaves-no-trace-spec : {M : Type 1} → statement M
-leaves-no-trace-spec =
+pub keeps-its-state-spec : {M : Type 1} → statement M
+keeps-its-state-spec =
     tie.close
     (tie.spec
     add-next
