@@ -1,12 +1,12 @@
 -- Moving a chunk_length of numbers at a time: what is moved so far, and what is left.
 use mathlib.Core.Path.{_≡_, refl, sym, ap, _∙_}
-use mathlib.Core.List.{List, [], _∷_, _++_, append-assoc}
-use Prim.Native.Nat.{ℕ, zero, suc, _+_, _-_, _*_, _≤_, _<_}
-use native.Mathlib.Nat.{le-refl, suc-mul, add-mul, mul-le-mul-right}
+use mathlib.Core.List.{List, [], _++_, append-assoc}
+use Prim.Native.Nat.{ℕ, _+_, _-_, _*_, _≤_, _<_}
+use native.Mathlib.Nat.{le-refl, suc-mul, add-mul}
 use native.Mathlib.Numerals.{add-one}
 use native.Mathlib.Omega.{arith}
 use lib.ListN.{length, take, drop, length-append, length-drop, take-append-drop}
-use lib.Seq.{length-take-le, take-add, take-at, drop-at, take-append-le, drop-append-le, drop-drop, take-take}
+use lib.Seq.{length-take-le, take-add, take-at, drop-at, take-append-le, drop-drop, take-take}
 use Rattle.lists.specs.Lists.{put, shiftUp, shiftDown}
 use Rattle.lists.proofs.Places.{put-before, put-behind, put-same-length, part-in-front}
 

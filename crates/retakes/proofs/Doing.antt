@@ -1,9 +1,9 @@
 -- A call on any take, `Retakes`: by the law of runs over the take with its places moved, with the stop's three reasons read off its test.
 use mathlib.Core.Path.{_≡_, refl, sym, ap, _∙_, subst}
 use mathlib.Core.List.{List}
-use mathlib.Core.Bool.{Bool, true, false, cond, _||_, true≢false}
+use mathlib.Core.Bool.{Bool, true, false, _||_, true≢false}
 use mathlib.Core.Logic.{_⊎_, inl, inr}
-use Prim.Native.Nat.{ℕ, suc, _+_, _-_, _*_, _≤_, _<_}
+use Prim.Native.Nat.{ℕ, _+_, _-_, _*_, _≤_, _<_}
 use native.Mathlib.Nat.{le-refl}
 use native.Mathlib.Omega.{arith}
 use borrow.Author.Tests.{eq-eqb, ne-eqb, eqb-true, le-ltb}
@@ -17,15 +17,15 @@ use Rattle.lists.proofs.Shifts.{past}
 use Rattle.utils.specs.Holds.{total}
 use Rattle.utils.specs.declared.holds.Holds.{Holds}
 use Rattle.voice.specs.Voice.{keptCount}
-use Rattle.score.specs.Rows.{rowWords, wordFor, restart, rowAt, restarts, putRow, removeRow}
+use Rattle.score.specs.Rows.{rowWords, wordFor, restart, rowAt, restarts, removeRow}
 use Rattle.score.specs.declared.refusal.Refusal.{Refusal}
 use Rattle.rows.specs.Rows.{Setup, Take, rowIn, wordsBefore, Run, idle, stopsOf, runOf}
 use Rattle.rows.proofs.Ending.{not-the-end}
 use Rattle.runs.proofs.Turns.{SameLengths}
 use Rattle.refusals.specs.Calls.{Call, render, edit, insert, remove, countAfter, rowsAfter, position}
 use Rattle.refusals.proofs.Accepted.{Accepted, accepted}
-use Rattle.take.specs.declared.Answer.the-variants.{Done, Refused}
-use Rattle.take.specs.Take.{resultOf, Outcome, refusedBy, ran, movedBy, stretchEnd, rendersNothing, doneOf, callOf}
+use Rattle.take.specs.declared.Answer.the-variants.{Done}
+use Rattle.take.specs.Take.{resultOf, Outcome, refusedBy, ran, movedBy, stretchEnd, rendersNothing, doneOf}
 use Rattle.take.proofs.Calls.{call-refused, call-done, render-holding, edit-retakable, insert-insertable, remove-removable}
 use Rattle.retakes.specs.Retakes.{
   Reel,
@@ -365,13 +365,14 @@ module _ (s : Setup) (o : Reel) (c : Call) where
       pub after-is : next s o c ≡ reel (countAfter (o .count) c) (rowsAfter (o .count) (o .rows) c) (doing .run .left)
       after-is = next-is (doing .run) call-is
 
+      -- A row that is not rendered lies before the call's position, or from its lowest stop on.
+      pub side : (i : ℕ) → (i < position c) ⊎ (doing .did .stop ≤ i) → (i < position c) ⊎ (lowestStop (o .count) c ≤ i)
+      side i (inl x) = inl x
+      side i (inr x) = inr (omega (arith, doing .did .first .least))
+
       pub others : (i : ℕ) → (i < position c) ⊎ (doing .did .stop ≤ i) → i < countAfter (o .count) c
           → wordsAt (s .frames) (doing .run .left) i ≡ wordsAt (s .frames) (o .left) (came c i)
-      others i x l = words-elsewhere (s .frames) (position c) (doing .did .stop) _ (doing .run .left) (doing .did .elsewhere) i x ∙ moves .words i (side x) l
-        where
-          side : (i < position c) ⊎ (doing .did .stop ≤ i) → (i < position c) ⊎ (lowestStop (o .count) c ≤ i)
-          side (inl y) = inl y
-          side (inr y) = inr (omega (arith, doing .did .first .least))
+      others i x l = words-elsewhere (s .frames) (position c) (doing .did .stop) _ (doing .run .left) (doing .did .elsewhere) i x ∙ moves .words i (side i x) l
 
       pub pasts : Past (s .frames) (countAfter (o .count) c) (o .left) (doing .run .left)
       pasts =

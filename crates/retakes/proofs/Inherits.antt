@@ -1,6 +1,6 @@
 -- What each made row has, if the row before it has it, every row has after an accepted rendering and any list of calls, `Inherited`: a call makes
 -- its rows from row to row, and leaves the others as they were, where they came from.
-use mathlib.Core.Path.{_≡_, refl, sym, ap, subst}
+use mathlib.Core.Path.{_≡_, refl, sym, subst}
 use mathlib.Core.List.{List, [], _∷_}
 use mathlib.Core.Bool.{Bool, true, false, cond}
 use mathlib.Core.Logic.{_⊎_, inl, inr}
@@ -18,7 +18,7 @@ use Rattle.score.specs.Numbers.{refusal, accepted, limitNumber}
 use Rattle.rows.specs.Rows.{Setup, Take, beforeRow}
 use Rattle.refusals.specs.Calls.{Call, render, countAfter, rowsAfter, position}
 use Rattle.retakes.specs.Retakes.{Reel, refusalIn, next, after, Five, Fives, came, lowestStop, wordsAt, Unchanging, Inherits, Inherited}
-use Rattle.retakes.proofs.Doing.{Does, next-refused, is-accepted, unchanging-or-not, doing, moves, after-is, others, next-unchanging}
+use Rattle.retakes.proofs.Doing.{Does, next-refused, is-accepted, unchanging-or-not, doing, moves, after-is, side, others, next-unchanging}
 use Rattle.retakes.proofs.Retakes.{accepted-is, five, unchanged-not, all-rows}
 
 -- ---- A score that 9 does not refuse.
@@ -93,11 +93,7 @@ module _ (s : Setup) (Has : Take → Type 0) (law : Inherits s Has) where
 
     -- Where every row had it, the others have it where they came from.
     changed-has : Before (o .left) (o .count) → Before (next s o c .left) (next s o c .count)
-    changed-has b = rw (after-is s o c z f w) (all-have (λ i x l. subst Has (sym (others s o c z f w i x l)) (b (came c i) (moves s o c z f w .within i (side i x) l))) n' (le-refl n'))
-      where
-        side : (i : ℕ) → (i < position c) ⊎ (D .did .stop ≤ i) → (i < position c) ⊎ (lowestStop (o .count) c ≤ i)
-        side i (inl x) = inl x
-        side i (inr x) = inr (omega (arith, D .did .first .least))
+    changed-has b = rw (after-is s o c z f w) (all-have (λ i x l. subst Has (sym (others s o c z f w i x l)) (b (came c i) (moves s o c z f w .within i (side s o c z f w i x) l))) n' (le-refl n'))
 
   -- ---- A whole rendering, of any take.
 

@@ -8,9 +8,9 @@ use native.Mathlib.Omega.{arith}
 use borrow.Author.Tests.{lt-ltb, le-ltb}
 use lib.ListN.{length, take, drop, length-drop}
 use lib.Seq.{length-take-le}
-use Rattle.lists.specs.Lists.{part, put, shiftUp}
+use Rattle.lists.specs.Lists.{put}
 use Rattle.lists.proofs.Cases.{le-or-lt}
-use Rattle.lists.proofs.Places.{Outside, part-end, part-outside, put-same-length, put-outside, put-long}
+use Rattle.lists.proofs.Places.{Outside, part-end, part-outside, put-outside, put-long}
 use Rattle.lists.proofs.Shifts.{
   past,
   cut-put,
@@ -34,7 +34,7 @@ use Rattle.lists.proofs.Shifts.{
 use Rattle.voice.specs.Voice.{keptCount}
 use Rattle.voice.proofs.Laws as voice
 use Rattle.score.specs.Rows.{rowWords, rowAt, putRow, insertRow, removeRow}
-use Rattle.rows.specs.Rows.{Setup, Take, lent, freshStart, keptAt, beforeRow, wordsBefore, keptRoom, roomAt, closedAt}
+use Rattle.rows.specs.Rows.{Setup, Take, freshStart, keptAt, beforeRow, wordsBefore, roomAt, closedAt}
 use Rattle.runs.specs.Inner.{Holding}
 use Rattle.refusals.specs.Calls.{Call, render, edit, insert, remove, countAfter, rowsAfter, position}
 use Rattle.refusals.proofs.Accepted.{Accepted}

@@ -6,20 +6,18 @@ use mathlib.Core.Bool.{Bool, true, false, cond}
 use mathlib.Core.Logic.{_⊎_, inl, inr}
 use Prim.Native.Nat.{ℕ, zero, suc, _+_, _-_, _*_, _≤_, _<_}
 use native.Mathlib.Omega.{arith}
-use native.Mathlib.Nat.{eq-or-lt-of-le, le-refl}
+use native.Mathlib.Nat.{eq-or-lt-of-le}
 use borrow.Author.Tests.{eq-eqb, ne-eqb, eqb-true, eqb-false}
 use lib.Dec.{eqb}
-use lib.ListN.{length, take, drop}
+use lib.ListN.{length, take}
 use lib.Seq.{take-all}
-use Rattle.lists.specs.Lists.{put}
 use Rattle.lists.proofs.Cases.{le-or-lt}
-use Rattle.lists.proofs.Places.{put-same}
 use Rattle.lists.proofs.Shifts.{part-of-cut}
 use Rattle.utils.specs.declared.holds.Holds.{Holds}
 use Rattle.score.specs.Rows.{rowWords, wordFor, restart, rowAt}
 use Rattle.rows.specs.Rows.{Setup, Take, keptAt, beforeRow, wordsBefore, Row, startOf, rowFrom, rowBy}
-use Rattle.refusals.specs.Calls.{Call, render, edit, insert, remove, countAfter, rowsAfter, position}
-use Rattle.refusals.proofs.Accepted.{Accepted, accepted}
+use Rattle.refusals.specs.Calls.{Call, render, countAfter, rowsAfter, position}
+use Rattle.refusals.proofs.Accepted.{Accepted}
 use Rattle.take.specs.declared.Answer.the-variants.{Done}
 use Rattle.take.specs.Take.{resultOf, Outcome, movedBy, callOf}
 use Rattle.take.proofs.Calls.{call-refused}
@@ -57,14 +55,13 @@ use Rattle.retakes.specs.Retakes.{
   FreshRetaken,
   EachRight,
   cut,
-  Promise,
   Demand3,
 }
 use Rattle.retakes.proofs.Takes.{Roomy}
 use Rattle.retakes.proofs.Runs.{Made, before-same}
 use Rattle.retakes.proofs.FreshRows.{fresh-long, before-fresh, rows-fresh, cut-fresh, laid-fresh, fresh-cut}
 use Rattle.retakes.proofs.Moves.{Moved, score-laid, moved}
-use Rattle.retakes.proofs.Doing.{Does, next-refused, is-accepted, roomy-after, unchanging-or-not, doing, moves, after-is, call-is, others, pasts, writes, unchanging-row, next-unchanging, retakes}
+use Rattle.retakes.proofs.Doing.{Does, next-refused, is-accepted, roomy-after, unchanging-or-not, doing, moves, after-is, call-is, side, others, pasts, writes, unchanging-row, next-unchanging, retakes}
 
 -- ---- Laws that the steps cite.
 
@@ -219,18 +216,14 @@ module _ (s : Setup) (o : Reel) (c : Call) (five : Five c) (f : Stands s o) wher
       m : Moved s (o .count) (o .rows) (o .left) c
       m = moves s o c z five w
 
-      side : (i : ℕ) → (i < position c) ⊎ (j ≤ i) → (i < position c) ⊎ (lowestStop (o .count) c ≤ i)
-      side i (inl x) = inl x
-      side i (inr x) = inr (omega (arith, D .did .first .least))
-
       -- A row that is not rendered, and starts as it started where it came from, stands as it stood.
       still : (i : ℕ) → i < n' → (x : (i < position c) ⊎ (j ≤ i))
           → rowBy s (rowAt rows' i) (wordsBefore s (u .kept) i) ≡ rowBy s (rowAt rows' i) (wordsBefore s (o .left .kept) (came c i)) → Made s rows' u i
       still i h x b =
           others s o c z five w i x h
-          ∙ f .made (came c i) (m .within i (side i x) h)
+          ∙ f .made (came c i) (m .within i (side s o c z five w i x) h)
           ∙ ap (λ (r : Row). r .words)
-          (ap (λ (row : List ℕ). rowBy s row (wordsBefore s (o .left .kept) (came c i))) (sym (m .row i (side i x) h)) ∙ sym b)
+          (ap (λ (row : List ℕ). rowBy s row (wordsBefore s (o .left .kept) (came c i))) (sym (m .row i (side s o c z five w i x) h)) ∙ sym b)
 
       by-words : (i : ℕ) → wordsBefore s (u .kept) i ≡ wordsBefore s (o .left .kept) (came c i)
           → rowBy s (rowAt rows' i) (wordsBefore s (u .kept) i) ≡ rowBy s (rowAt rows' i) (wordsBefore s (o .left .kept) (came c i))

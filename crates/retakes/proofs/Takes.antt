@@ -1,5 +1,5 @@
 -- A row's words put into a take that may be longer: they stand there, the other rows are as they were, and no length changes.
-use mathlib.Core.Path.{_≡_, refl}
+use mathlib.Core.Path.{_≡_}
 use mathlib.Core.List.{List}
 use mathlib.Core.Logic.{_⊎_}
 use Prim.Native.Nat.{ℕ, _+_, _*_, _≤_, _<_}

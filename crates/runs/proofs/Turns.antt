@@ -14,7 +14,7 @@ use Rattle.utils.specs.Holds.{none, plus, AtMost, mostCount}
 use Rattle.utils.specs.Rendered.{mostFrames, mostHolds}
 use Rattle.utils.specs.declared.holds.Holds.{Holds}
 use Rattle.utils.proofs.Sums.{plus-none, none-plus, plus-assoc, most-none, most-more, most-plus}
-use Rattle.score.specs.Rows.{mostRows, rowAt, restarts}
+use Rattle.score.specs.Rows.{mostRows}
 use Rattle.rows.specs.declared.Report.{Report}
 use Rattle.rows.specs.Rows.{Setup, Take, Row, keptAt, rowIn, nothing, both, Run, reported, idle, after, stopsOf, runOf}
 use Rattle.rows.specs.Ends.{endOf}

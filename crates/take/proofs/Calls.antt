@@ -1,7 +1,7 @@
 -- The calls by their tests: a refusal, nothing to do, or a run.
-use mathlib.Core.Path.{_≡_, refl, sym, ap, _∙_}
+use mathlib.Core.Path.{_≡_, sym, ap, _∙_}
 use mathlib.Core.List.{List}
-use mathlib.Core.Bool.{Bool, true, false, cond}
+use mathlib.Core.Bool.{Bool, true, false}
 use Prim.Native.Nat.{ℕ, _+_, _-_, _*_, _≤_, _<_}
 use native.Mathlib.Nat.{mul-le-mul-right}
 use native.Mathlib.Omega.{arith}
@@ -18,7 +18,7 @@ use Rattle.runs.specs.Inner.{Holding}
 use Rattle.refusals.specs.Calls.{Call, render, edit, insert, remove, countAfter, rowsAfter, position, leastCount, largestCount}
 use Rattle.refusals.specs.Refusals.{wrongPosition, full, refusalOf}
 use Rattle.take.specs.declared.Answer.the-variants.{Done, Refused}
-use Rattle.take.specs.Take.{Outcome, outcome, refusedBy, ran, movedBy, stretchEnd, rendersNothing, doneOf, callOf}
+use Rattle.take.specs.Take.{outcome, refusedBy, ran, movedBy, stretchEnd, rendersNothing, doneOf, callOf}
 use Rattle.take.specs.Inner.{Retakable, Insertable, Removable}
 use Rattle.refusals.proofs.Accepted.{Usable, Accepted, accepted, is-below, spare-right}
 

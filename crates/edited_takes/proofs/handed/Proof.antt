@@ -2,8 +2,8 @@
 use mathlib.Core.Path.{sym}
 use lib.Seq.{length-take-le}
 use borrow.Author.Needs.{needs}
-use Rattle.edited_takes.proofs.refused.handed.Statement.{statement}
-use Rattle.edited_takes.proofs.refused.handed.Tie as tie
+use Rattle.edited_takes.proofs.handed.Statement.{statement}
+use Rattle.edited_takes.proofs.handed.Tie as tie
 
 array-read-at-most : tie.Need-array-read-at-most
 array-read-at-most c = search needs

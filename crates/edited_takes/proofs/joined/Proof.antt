@@ -2,8 +2,8 @@
 use Prim.Native.Nat.{_-_, _≤_}
 use lib.ListN.{length}
 use borrow.Author.Needs.{needs}
-use Rattle.edited_takes.proofs.lists.joined.Statement.{statement}
-use Rattle.edited_takes.proofs.lists.joined.Tie as tie
+use Rattle.edited_takes.proofs.joined.Statement.{statement}
+use Rattle.edited_takes.proofs.joined.Tie as tie
 
 abbrev Inv-loop : tie.InvT-loop
 Inv-loop words each n fresh old i₀ i =

@@ -2,8 +2,8 @@
 use Prim.Native.Nat.{_-_, _≤_}
 use lib.ListN.{length}
 use borrow.Author.Needs.{needs}
-use Rattle.edited_takes.proofs.lists.list.Statement.{statement}
-use Rattle.edited_takes.proofs.lists.list.Tie as tie
+use Rattle.edited_takes.proofs.list.Statement.{statement}
+use Rattle.edited_takes.proofs.list.Tie as tie
 
 abbrev Inv-loop : tie.InvT-loop
 Inv-loop settings bank map count table rows₀ out₀ aux₀ kept₀ n₀ i₀ rows out aux kept n i =

@@ -2,8 +2,8 @@
 use Prim.Native.Nat.{_-_, _≤_}
 use lib.ListN.{length}
 use borrow.Author.Needs.{needs}
-use Rattle.edited_takes.proofs.refused.attempt_all.Statement.{statement}
-use Rattle.edited_takes.proofs.refused.attempt_all.Tie as tie
+use Rattle.edited_takes.proofs.attempt_all.Statement.{statement}
+use Rattle.edited_takes.proofs.attempt_all.Tie as tie
 
 abbrev Inv-loop : tie.InvT-loop
 Inv-loop table bank map i₀ i =

@@ -1,8 +1,8 @@
 -- Each row word in its turn.
 use Prim.Native.Nat.{_-_, _≤_}
 use borrow.Author.Needs.{needs}
-use Rattle.edited_takes.proofs.lists.rows_after.Statement.{statement}
-use Rattle.edited_takes.proofs.lists.rows_after.Tie as tie
+use Rattle.edited_takes.proofs.rows_after.Statement.{statement}
+use Rattle.edited_takes.proofs.rows_after.Tie as tie
 
 abbrev Inv-loop : tie.InvT-loop
 Inv-loop call count words after₀ i₀ after i =

@@ -1,8 +1,8 @@
 -- Each word of the score has a place among the row words.
 use Prim.Native.Nat.{_-_, _≤_}
 use borrow.Author.Needs.{needs}
-use Rattle.edited_takes.proofs.lists.score_words.Statement.{statement}
-use Rattle.edited_takes.proofs.lists.score_words.Tie as tie
+use Rattle.edited_takes.proofs.score_words.Statement.{statement}
+use Rattle.edited_takes.proofs.score_words.Tie as tie
 
 abbrev Inv-loop : tie.InvT-loop
 Inv-loop score words₀ i₀ words i =
