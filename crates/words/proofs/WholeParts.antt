@@ -18,22 +18,25 @@ use lib.Ieee.Exact.{HasValue}
 absurd-tf : {A : Type 0} → true ≡ false → A
 absurd-tf e = absurd (true≢false e)
 
--- of a float that is a / c in size
-pub whole-at : (w : ℕ) (x : Float) (a c : ℕ) → 0 < c → HasValue x false a c → toUnsigned w x ≡ min (a / c) (2 ^ w - 1)
+-- of a float that is a / c in size, with the sign s
+pub unsigned-at : (w : ℕ) (x : Float) (s : Bool) (a c : ℕ) → 0 < c → HasValue x s a c → toUnsigned w x ≡ cond s 0 (min (a / c) (2 ^ w - 1))
 unfolding toUnsigned
-whole-at w nan a c p v = absurd v
-whole-at w (inf t) a c p v = absurd v
-whole-at w (fin t m e) a c p v =
-    ap (λ (b : Bool). cond b 0 (min (m * up e / down e) (2 ^ w - 1))) (v .0)
-    ∙ ap (λ (n : ℕ). min n (2 ^ w - 1)) (div-same (m * up e) (down e) a c (down-pos e) p (v .1))
+unsigned-at w nan s a c p v = absurd v
+unsigned-at w (inf t) s a c p v = absurd v
+unsigned-at w (fin t m e) s a c p v = rw (v .0, div-same (m * up e) (down e) a c (down-pos e) p (v .1))
+
+pub signed-at-sign : (h : ℕ) (x : Float) (s : Bool) (a c : ℕ) → 0 < c → HasValue x s a c → toSigned h x ≡ cond s (negℤ (pos (min (a / c) (2 ^ h)))) (pos (min (a / c) (2 ^ h - 1)))
+unfolding toSigned
+signed-at-sign h nan s a c p v = absurd v
+signed-at-sign h (inf t) s a c p v = absurd v
+signed-at-sign h (fin t m e) s a c p v = rw (v .0, div-same (m * up e) (down e) a c (down-pos e) p (v .1))
+
+-- and of one that is not below 0
+pub whole-at : (w : ℕ) (x : Float) (a c : ℕ) → 0 < c → HasValue x false a c → toUnsigned w x ≡ min (a / c) (2 ^ w - 1)
+whole-at w x a c p v = unsigned-at w x false a c p v
 
 pub signed-at : (h : ℕ) (x : Float) (a c : ℕ) → 0 < c → HasValue x false a c → toSigned h x ≡ pos (min (a / c) (2 ^ h - 1))
-unfolding toSigned
-signed-at h nan a c p v = absurd v
-signed-at h (inf t) a c p v = absurd v
-signed-at h (fin t m e) a c p v =
-    ap (λ (b : Bool). cond b (negℤ (pos (min (m * up e / down e) (2 ^ h)))) (pos (min (m * up e / down e) (2 ^ h - 1)))) (v .0)
-    ∙ ap (λ (n : ℕ). pos (min n (2 ^ h - 1))) (div-same (m * up e) (down e) a c (down-pos e) p (v .1))
+signed-at h x a c p v = signed-at-sign h x false a c p v
 
 -- a test that 0 is below something fails, and the something is not 0
 not-zero : {A : Type 0} (n : ℕ) → 0 < n → ltb 0 n ≡ false → A

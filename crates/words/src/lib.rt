@@ -8,6 +8,9 @@ ghost use Rattle.words.specs.Binary32.{_⊖_, ofCount};
 ghost use Rattle.words.specs.Parts.{wholeFloat, wholeI32Float, partOf};
 ghost use Rattle.words.specs.Inner.{Scaled, Small};
 
+// Whole parts by a word's three fields.
+mod fields;
+
 // The word of a float. Any NaN gives 7fc00000.
 pub fn to_word(x: f32) -> u32
     ensures { λ r. ⌜ r ≡ toBits binary32 x ⌝ }
@@ -30,32 +33,22 @@ pub fn of_word(w: u32) -> f32
 pub fn whole(x: f32) -> u64
     ensures { λ r. ⌜ r ≡ toUnsigned 64 x ⌝ }
 {
-    if x > -1.0 {
-        if x < 18446744073709551616.0 {
-            std::num::truncating_f32_to_u64(x)
-        } else {
-            18446744073709551615
-        }
-    } else {
-        0
-    }
+    let w = to_word(x);
+    let s = fields::sign(w);
+    let e = fields::biased_exponent(w);
+    let t = fields::trailing_significand(w);
+    fields::unsigned_whole(s, e, t)
 }
 
 // The whole part of a float as an i32. It saturates at both ends.
 pub fn whole_i32(x: f32) -> i32
     ensures { λ r. ⌜ r ≡ toSigned 31 x ⌝ }
 {
-    if x < 0.0 {
-        let n = whole(-x);
-        if n < 2147483648 {
-            0 - (n as i32)
-        } else {
-            -2147483648
-        }
-    } else {
-        let n = whole(x);
-        if n < 2147483648 { n as i32 } else { 2147483647 }
-    }
+    let w = to_word(x);
+    let s = fields::sign(w);
+    let e = fields::biased_exponent(w);
+    let t = fields::trailing_significand(w);
+    fields::signed_whole(s, e, t)
 }
 
 // A power of two, as a number and as a float.

@@ -1,26 +1,40 @@
--- `words::whole` meets its contract.
+-- `words::whole` meets its contract: the equation by fields is the whole part (of-float).
 use borrow.Author.Needs.{needs}
-use mathlib.Core.Path.{sym, subst}
-use lib.Dec.{T}
-use lib.Ieee.{ofBits, neg}
-use Rattle.words.proofs.WholeParts.{whole-low, whole-high}
+use mathlib.Core.Path.{sym, _∙_}
+use denote.Floats.{passes}
+use Rattle.words.proofs.ByFields.{of-float}
 use Rattle.words.proofs.whole.Statement.{statement}
 use Rattle.words.proofs.whole.Tie as tie
 
-truncating-f32-to-u64-requires : tie.Need-truncating-f32-to-u64-requires
-unfolding ofBits neg
-truncating-f32-to-u64-requires c κs = (subst T (sym (c .before .if1 .taken)) tt, subst T (sym (c .if2 .taken)) tt)
+to-word-requires : tie.Need-to-word-requires
+to-word-requires c κs = search needs
+
+sign-requires : tie.Need-sign-requires
+sign-requires c κs = search needs
+
+biased-exponent-requires : tie.Need-biased-exponent-requires
+biased-exponent-requires c κs = search needs
+
+trailing-significand-requires : tie.Need-trailing-significand-requires
+trailing-significand-requires c κs = search needs
+
+unsigned-whole-requires : tie.Need-unsigned-whole-requires
+unsigned-whole-requires c κs = search needs
 
 returns : tie.Need-returns
-returns c = search needs
-
-returns-2 : tie.Need-returns-2
-unfolding ofBits neg
-returns-2 c = sym (whole-high _ (c .before .if1 .taken) (c .if2 .left))
-
-returns-3 : tie.Need-returns-3
-unfolding ofBits neg
-returns-3 c = sym (whole-low _ (c .if1 .left))
+returns c =
+    let x = c .before .before .before .before .before in
+    c .unsigned-whole .ensures
+    ∙ rw (c .before .before .before .sign .ensures, c .before .before .biased-exponent .ensures, c .before .trailing-significand .ensures, c .before .before .before .before .to-word .ensures)
+    (sym (of-float (x .args .x) (passes _ (x .good .0 .1)) .unsigned))
 
 pub whole-spec : {M : Type 1} → statement M
-whole-spec = tie.close (tie.spec truncating-f32-to-u64-requires returns returns-2 returns-3)
+whole-spec =
+    tie.close
+    (tie.spec
+    to-word-requires
+    sign-requires
+    biased-exponent-requires
+    trailing-significand-requires
+    unsigned-whole-requires
+    returns)

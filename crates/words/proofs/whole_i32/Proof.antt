@@ -1,76 +1,45 @@
--- `words::whole_i32` meets its contract.
+-- `words::whole_i32` meets its contract: the equation by fields is the whole part to i32 (of-float).
 use borrow.Author.Needs.{needs}
-use mathlib.Core.Path.{_≡_, sym, ap, _∙_}
-use Prim.Native.Nat.{ℕ, min}
-use native.Mathlib.Nat.{min-eq-left, min-eq-right}
-use native.Mathlib.Omega.{arith}
-use lib.IntN.{pos, negℤ, +ℤ-idl}
-use lib.Ieee.{ofBits, neg, toUnsigned}
-use mir.Syntax.{w32}
-use mir.Facts.{toZ-pos}
-use Rattle.words.proofs.WholeParts.{signed-up, signed-down, neg-mag, taken-off}
+use mathlib.Core.Path.{_≡_, sym, _∙_}
+use mir.Facts.{toZ-ofZ}
+use lib.Ieee.{toSigned}
+use lib.Ieee.Casts.{toSigned-in}
+use denote.Floats.{passes}
+use Rattle.words.proofs.ByFields.{of-float}
 use Rattle.words.proofs.whole_i32.Statement.{statement}
 use Rattle.words.proofs.whole_i32.Tie as tie
 
-whole-requires : tie.Need-whole-requires
-whole-requires c κs = search needs
+to-word-requires : tie.Need-to-word-requires
+to-word-requires c κs = search needs
 
-cast-result : tie.Need-cast-result
-cast-result c = search needs
+sign-requires : tie.Need-sign-requires
+sign-requires c κs = search needs
 
-sub-result : tie.Need-sub-result
-sub-result c = rw (toZ-pos w32 (c .if2 .taken), +ℤ-idl) (neg-mag _ (c .if2 .taken))
+biased-exponent-requires : tie.Need-biased-exponent-requires
+biased-exponent-requires c κs = search needs
 
-whole-requires-2 : tie.Need-whole-requires-2
-whole-requires-2 c κs = search needs
+trailing-significand-requires : tie.Need-trailing-significand-requires
+trailing-significand-requires c κs = search needs
 
-cast-result-2 : tie.Need-cast-result-2
-cast-result-2 c = search needs
+signed-whole-requires : tie.Need-signed-whole-requires
+signed-whole-requires c κs = search needs
 
 returns : tie.Need-returns
-unfolding ofBits
 returns c =
-    let n = c .before .whole .result in
-    let x = c .before .before .before .args .x in
-    let e : n ≡ toUnsigned 64 (neg x) = c .before .whole .ensures in
-    let m : min (toUnsigned 64 (neg x)) 2147483648 ≡ n = ap (λ (y : ℕ). min y 2147483648) (sym e) ∙ min-eq-left (omega (arith, c .if2 .taken)) in
-    taken-off n (c .if2 .taken) ∙ sym (signed-down x (c .before .before .if1 .taken) ∙ ap (λ (y : ℕ). negℤ (pos y)) m)
-
-returns-2 : tie.Need-returns-2
-unfolding ofBits
-returns-2 c =
-    let x = c .before .before .before .args .x in
-    let e : c .before .whole .result ≡ toUnsigned 64 (neg x) = c .before .whole .ensures in
-    let m : min (toUnsigned 64 (neg x)) 2147483648 ≡ 2147483648 = ap (λ (y : ℕ). min y 2147483648) (sym e) ∙ min-eq-right (c .if2 .left) in
-    sym (signed-down x (c .before .before .if1 .taken) ∙ ap (λ (y : ℕ). negℤ (pos y)) m)
-
-returns-3 : tie.Need-returns-3
-unfolding ofBits
-returns-3 c =
-    let x = c .before .before .before .args .x in
-    let n = c .before .whole2 .result in
-    let e : n ≡ toUnsigned 64 x = c .before .whole2 .ensures in
-    let m : min (toUnsigned 64 x) 2147483647 ≡ n = ap (λ (y : ℕ). min y 2147483647) (sym e) ∙ min-eq-left (omega (arith, c .if3 .taken)) in
-    toZ-pos w32 (c .if3 .taken) ∙ sym (signed-up x (c .before .before .if1 .left) ∙ ap pos m)
-
-returns-4 : tie.Need-returns-4
-unfolding ofBits
-returns-4 c =
-    let x = c .before .before .before .args .x in
-    let e : c .before .whole2 .result ≡ toUnsigned 64 x = c .before .whole2 .ensures in
-    let m : min (toUnsigned 64 x) 2147483647 ≡ 2147483647 = ap (λ (y : ℕ). min y 2147483647) (sym e) ∙ min-eq-right (omega (arith, c .if3 .left)) in
-    sym (signed-up x (c .before .before .if1 .left) ∙ ap pos m)
+    let x = c .before .before .before .before .before in
+    let e : c .signed-whole .result ≡ toSigned 31 (x .args .x) =
+    c .signed-whole .ensures
+    ∙ rw (c .before .before .before .sign .ensures, c .before .before .biased-exponent .ensures, c .before .trailing-significand .ensures, c .before .before .before .before .to-word .ensures)
+    (sym (of-float (x .args .x) (passes _ (x .good .0 .1)) .to-i32)) in
+    toZ-ofZ (record { sfits = rw e (toSigned-in 31 (x .args .x)) }) ∙ e
 
 pub whole-i32-spec : {M : Type 1} → statement M
 whole-i32-spec =
     tie.close
     (tie.spec
-    whole-requires
-    cast-result
-    sub-result
-    whole-requires-2
-    cast-result-2
-    returns
-    returns-2
-    returns-3
-    returns-4)
+    to-word-requires
+    sign-requires
+    biased-exponent-requires
+    trailing-significand-requires
+    signed-whole-requires
+    returns)

@@ -1,0 +1,13 @@
+-- `words::fields::is_nan` meets its contract.
+use borrow.Author.Tests.{eq-eqb, ne-eqb}
+use Rattle.words.proofs.fields.is_nan.Statement.{statement}
+use Rattle.words.proofs.fields.is_nan.Tie as tie
+
+returns : tie.Need-returns
+returns c = simp (eq-eqb _ _ (c .if1 .taken))
+
+returns-2 : tie.Need-returns-2
+returns-2 c = simp (ne-eqb _ _ (c .if1 .left))
+
+pub is-nan-spec : {M : Type 1} → statement M
+is-nan-spec = tie.close (tie.spec returns returns-2)
