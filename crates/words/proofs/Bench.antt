@@ -1,10 +1,11 @@
 -- Document 01, "Bench values", of whole parts, computed.
 use mathlib.Core.Path.{_≡_, refl}
 use mathlib.Core.Bool.{false}
-use lib.IntN.{pos}
+use lib.IntN.{pos, negsuc}
 use lib.Ieee.{nan, fin, binary32, neg, toUnsigned, toSigned, ofInt}
 use Rattle.words.specs.Binary32.{decimal, ofCount}
 use Rattle.words.specs.Parts.{wholePart, wholeFloat, wholeI32Float}
+use Rattle.words.specs.Fields.{sign, biasedExponent, trailingSignificand, wholeMagnitude, unsignedWhole, signedWhole, unsignedOf, signedOf}
 
 -- "whole part of 2.75 is 2"
 whole-of-2·75 : wholePart (decimal 275 2) ≡ 2
@@ -38,3 +39,35 @@ most-as-float = refl
 i32-most-as-float : ofInt binary32 (pos 2147483647) ≡ fin false 1 (pos 31)
 unfolding ofInt
 i32-most-as-float = refl
+
+-- ---- document 02, N3: the same by a word's fields, and the words where an answer turns
+-- 2.75 is 40300000: sign 0, biased exponent 128, trailing significand 3145728
+fields-of-2·75 : (sign 0x40300000 ≡ 0) × (biasedExponent 0x40300000 ≡ 128) × (trailingSignificand 0x40300000 ≡ 3145728)
+fields-of-2·75 = (refl, refl, refl)
+
+whole-by-fields-of-2·75 : unsignedOf 0x40300000 ≡ 2
+unfolding unsignedWhole wholeMagnitude
+whole-by-fields-of-2·75 = refl
+
+-- -0.5 and NaN
+i32-by-fields-of-minus-half : signedOf 0xbf000000 ≡ pos 0
+unfolding signedWhole wholeMagnitude
+i32-by-fields-of-minus-half = refl
+
+by-fields-of-nan : (unsignedOf 0x7fc00000 ≡ 0) × (signedOf 0x7fc00000 ≡ pos 0)
+unfolding unsignedWhole signedWhole wholeMagnitude
+by-fields-of-nan = (refl, refl)
+
+-- the largest below 2 ^ 64, and 2 ^ 64
+last-before-saturation : unsignedOf 0x5f7fffff ≡ 18446742974197923840
+unfolding unsignedWhole wholeMagnitude
+last-before-saturation = refl
+
+first-saturated : unsignedOf 0x5f800000 ≡ 18446744073709551615
+unfolding unsignedWhole wholeMagnitude
+first-saturated = refl
+
+-- the largest below 2 ^ 31, 3e9, -2 ^ 31 and the infinity below
+i32-ends : (signedOf 0x4effffff ≡ pos 2147483520) × (signedOf 0x4f32d05e ≡ pos 2147483647) × (signedOf 0xcf000000 ≡ negsuc 2147483647) × (signedOf 0xff800000 ≡ negsuc 2147483647)
+unfolding signedWhole wholeMagnitude
+i32-ends = (refl, refl, refl, refl)

@@ -1,25 +1,24 @@
--- The whole part of a float held at a top, and whether it was held, by tests of the float against the top and the number after it.
+-- The whole part of a float held at a top, and whether it was held, by tests of the float against the top and a half and the number after the top.
 use mathlib.Core.Path.{_≡_, refl, sym, ap, _∙_, subst}
 use mathlib.Core.Logic.{_⊎_, inl, inr}
-use mathlib.Core.Bool.{Bool, true, false, cond, _&&_, _||_, true≢false, false≢true}
-use Prim.Native.Nat.{ℕ, zero, suc, _+_, _-_, _*_, _/_, _≤_, _<_, min, zero-le}
-use native.Mathlib.Nat.{min-eq-left, min-eq-right, zero-min, zero-div, mul-one, mul-pos, div-one, le-div-iff-mul-le, div-lt-iff-lt-mul, le-min, min-le-left}
-use native.Mathlib.Nat.{le-trans, lt-of-lt-of-le, lt-of-le-of-lt, lt-of-not-le, not-le-of-lt, eq-or-lt-of-le, le-of-lt, le-of-eq, mul-le-mul-right, mul-right-comm, le-of-mul-le-mul-right}
+use mathlib.Core.Bool.{Bool, true, false, cond, _&&_, _||_, true≢false}
+use Prim.Native.Nat.{ℕ, zero, suc, _+_, _-_, _*_, _/_, _^_, _≤_, _<_, min, zero-le}
+use native.Mathlib.Nat.{min-eq-left, min-eq-right, mul-one, one-mul, mul-pos, add-mul, mul-assoc, div-eq-of-lt, le-div-iff-mul-le, div-lt-iff-lt-mul, le-min, min-le-left}
+use native.Mathlib.Nat.{le-trans, lt-of-lt-of-le, lt-of-not-le, not-le-of-lt, eq-or-lt-of-le, le-of-lt, le-of-eq, mul-le-mul-right, mul-right-comm, le-of-mul-le-mul-right}
 use native.Mathlib.Numerals.{add-one}
 use native.Mathlib.Omega.{arith}
-use borrow.Author.Tests.{ltb-false, leb-true, leb-false, lt-ltb, le-ltb, eq-eqb, ne-eqb}
-use lib.Dec.{T, leb, ltb, eqb, lit<, lit≤}
-use lib.IntN.{ℤ, pos, negℤ}
-use lib.Ieee.{Float, nan, inf, fin, binary32, up, down, lt, le, eq, sum, sub, round, neg, ofBits, ofInt, inUnsigned, toUnsigned, toSigned}
+use borrow.Author.Tests.{ltb-true, ltb-false, leb-true, leb-false, lt-ltb, le-ltb, eq-eqb, ne-eqb}
+use lib.Dec.{leb, ltb, eqb, lit<, lit≤}
+use lib.IntN.{pos, negsuc, negℤ}
+use lib.Pow.{pow-mono, shl-lt}
+use lib.Ieee.{Float, nan, inf, fin, binary32, up, down, lt, le, eq, sum, sub, round, neg, ofBits, ofInt, toUnsigned, toSigned}
 use lib.Ieee.Fits.{down-pos}
-use lib.Ieee.Exact.{HasValue}
+use lib.Ieee.Exact.{HasValue, round-exact}
 use lib.Ieee.Scale.{round-same}
-use lib.Ieee.Back.{unsigned-back}
-use Rattle.words.specs.Binary32.{_⊖_, ofCount}
-use Rattle.words.specs.Inner.{Small}
-use Rattle.words.proofs.Values.{own, below-at, not-below-at, count-value}
+use Rattle.words.specs.Binary32.{_⊕_, _⊖_, decimal, ofCount}
+use Rattle.words.specs.Inner.{half, Small}
+use Rattle.words.proofs.Values.{own, below-at, not-below-at, add-at, count-value}
 use Rattle.words.proofs.WholeParts.{whole-at, whole-below, signed-small}
-use Rattle.words.proofs.Rounding.{in-float}
 
 -- ---- what a comparison of values says
 values-below : (x y : Float) (a c b d : ℕ) → 0 < c → 0 < d → HasValue x false a c → HasValue y false b d → lt x y ≡ true → a * d < b * c
@@ -32,89 +31,117 @@ values-not-below x y a c b d p q v w h = go (leb (b * c) (a * d)) refl
     go true e = leb-true (b * c) (a * d) e
     go false e = absurd (true≢false (sym (below-at x y a c b d p q v w (leb-false (b * c) (a * d) e)) ∙ h))
 
--- ---- small floats
-small-value : (f : Float) (n : ℕ) → n ≤ 8388607 → HasValue f false n 1 → Small f
-small-value nan n h v = absurd v
-small-value (inf t) n h v = absurd v
-small-value (fin t m e) n h v =
-    let l : n * down e ≤ 8388607 * down e = mul-le-mul-right (down e) h in
-    record { digits = m; exponent = e; is = ap (λ (s : Bool). fin s m e) (v .0); below = omega (arith, v .1, down-pos e) }
+-- ---- raised to a half, a float keeps its whole part
+-- at least a half
+abbrev Half : Float → Type 0
+Half nan = ⊥
+Half (inf s) = s ≡ false
+Half (fin s m e) = (s ≡ false) × (down e ≤ m * up e * 2)
 
-count-whole : (n : ℕ) → n ≤ 8388607 → toUnsigned 64 (ofCount n) ≡ n
-count-whole n h = whole-at 64 (ofCount n) n 1 (lit< tt) (count-value n (le-trans h (lit≤ tt))) ∙ ap (λ (k : ℕ). min k 18446744073709551615) (div-one n) ∙ min-eq-left (le-trans h (lit≤ tt))
+-- a half, as it is written
+abbrev ½ : Float
+½ = fin false 1 (negsuc 0)
 
--- ---- x is not above 0
-pub none : (x : Float) (top : ℕ) → lt (fin false 0 (pos 0)) x ≡ false → (0 ≡ min (toUnsigned 64 x) top) × Small (fin false 0 (pos 0))
+raised : (x : Float) → Half (cond (lt ½ x) x ½) × (toUnsigned 64 (cond (lt ½ x) x ½) ≡ toUnsigned 64 x)
 unfolding lt toUnsigned
-none x top h = (sym (ap (λ (n : ℕ). min n top) (whole-zero x h) ∙ zero-min top), record { digits = 0; exponent = pos 0; is = refl; below = lit< tt })
+raised nan = ((refl, lit≤ tt), refl)
+raised (inf true) = ((refl, lit≤ tt), refl)
+raised (inf false) = (refl, refl)
+raised (fin true m e) = ((refl, lit≤ tt), refl)
+raised (fin false m e) = go (ltb (1 * 1 * down e) (m * up e * 2)) refl
   where
-    whole-zero : (y : Float) → lt (fin false 0 (pos 0)) y ≡ false → toUnsigned 64 y ≡ 0
-    whole-zero nan g = refl
-    whole-zero (inf true) g = refl
-    whole-zero (inf false) g = absurd (true≢false g)
-    whole-zero (fin true m e) g = refl
-    whole-zero (fin false m e) g =
-        let z : m * up e ≡ 0 = omega (arith, ltb-false (0 * 1 * down e) (m * up e * 1) g) in
-        rw (z, zero-div, zero-min)
+    go : (b : Bool) → ltb (1 * 1 * down e) (m * up e * 2) ≡ b
+        → Half (cond b (fin false m e) ½) × (toUnsigned 64 (cond b (fin false m e) ½) ≡ min (m * up e / down e) 18446744073709551615)
+    go true h = ((refl, omega (arith, ltb-true (1 * 1 * down e) (m * up e * 2) h)), refl)
+    go false h =
+        let l : m * up e < down e = omega (arith, ltb-false (1 * 1 * down e) (m * up e * 2) h, down-pos e) in
+        ((refl, lit≤ tt), sym (ap (λ (n : ℕ). min n 18446744073709551615) (div-eq-of-lt l)))
 
--- ---- the other floats
-nan-above : lt (fin false 0 (pos 0)) nan ≡ true → ⊥
+-- ---- the top and a half
+odds : (top d : ℕ) → (top * 2 + 1) * d ≡ top * d * 2 + d
+odds top d = add-mul (top * 2) 1 d ∙ ap (λ (n : ℕ). n + 1 * d) (mul-right-comm top 2 d) ∙ ap (λ (n : ℕ). top * d * 2 + n) (one-mul d)
+
+top-value : (t : Float) (top : ℕ) → top ≤ 8388607 → t ≡ ofCount top ⊕ ½ → HasValue t false (top * 2 + 1) 2
+top-value t top m q =
+    subst (λ (f : Float). HasValue f false (top * 2 + 1) 2) (sym (q ∙ add-at (ofCount top) ½ top 1 1 2 (lit< tt) (lit< tt) (count-value top (le-trans m (lit≤ tt))) (own 1 (negsuc 0))))
+    (round-exact binary32 false (top * 2 + 1) 2 (top * 2 + 1) 148 (lit< tt) few (lt-of-lt-of-le (shl-lt 24 148 few) (pow-mono {i = 24 + 148} {j = 277} (lit≤ tt))) (sym (mul-assoc (top * 2 + 1) (2 ^ 148) 2)))
+  where
+    few : top * 2 + 1 < 2 ^ 24
+    few = omega arith
+
+-- ---- y is below the top and a half
+inf-not-below : (f : Float) (a c : ℕ) → HasValue f false a c → lt (inf false) f ≡ false
 unfolding lt
-nan-above g = false≢true g
+inf-not-below nan a c w = absurd w
+inf-not-below (inf b) a c w = absurd w
+inf-not-below (fin b n k) a c w = refl
 
-minus-above : lt (fin false 0 (pos 0)) (inf true) ≡ true → ⊥
-unfolding lt
-minus-above g = false≢true g
+inside : (y t : Float) (top : ℕ) → top ≤ 8388607 → HasValue t false (top * 2 + 1) 2 → Half y → lt y t ≡ true → (toUnsigned 64 y ≡ min (toUnsigned 64 y) top) × Small y
+inside nan t top m v h l = absurd h
+inside (inf s) t top m v h l = absurd (true≢false (sym l ∙ ap (λ (b : Bool). lt (inf b) t) h ∙ inf-not-below t (top * 2 + 1) 2 v))
+inside (fin true n e) t top m v h l = absurd (true≢false (h .0))
+inside (fin false n e) t top m v h l =
+    let d = down e in
+    let a : n * up e * 2 < (top * 2 + 1) * down e = values-below (fin false n e) t (n * up e) (down e) (top * 2 + 1) 2 (down-pos e) (lit< tt) (own n e) v l in
+    let o : (top * 2 + 1) * down e ≡ top * down e * 2 + down e = odds top (down e) in
+    let k : top * down e ≤ 8388607 * down e = mul-le-mul-right (down e) m in
+    let s : (top + 1) * down e ≡ top * down e + down e = add-mul top 1 (down e) ∙ ap (λ (x : ℕ). top * down e + x) (one-mul (down e)) in
+    let w : n * up e / down e < top + 1 = div-lt-iff-lt-mul (down-pos e) .1 (omega arith) in
+    let u : toUnsigned 64 (fin false n e) ≤ top =
+    le-trans (le-of-eq (whole-at 64 (fin false n e) (n * up e) (down e) (down-pos e) (own n e)))
+    (le-trans (min-le-left (n * up e / down e) 18446744073709551615) (omega arith)) in
+    (sym (min-eq-left u), record { digits = n; exponent = e; is = refl; least = h .1; below = omega (arith, down-pos e) })
 
-minus-fin-above : (n : ℕ) (e : ℤ) → lt (fin false 0 (pos 0)) (fin true n e) ≡ true → ⊥
-unfolding lt
-minus-fin-above n e g = false≢true g
-
+-- ---- y is not below the top and a half
 inf-whole : toUnsigned 64 (inf false) ≡ 18446744073709551615
 unfolding toUnsigned
 inf-whole = refl
 
-inf-not-below : (f : Float) (n : ℕ) → HasValue f false n 1 → lt (inf false) f ≡ false
-unfolding lt
-inf-not-below nan n v = absurd v
-inf-not-below (inf t) n v = absurd v
-inf-not-below (fin t m e) n v = refl
+top-small : (t : Float) (top : ℕ) → top ≤ 8388607 → HasValue t false (top * 2 + 1) 2 → Small t
+top-small nan top m v = absurd v
+top-small (inf b) top m v = absurd v
+top-small (fin b n e) top m v =
+    let o : (top * 2 + 1) * down e ≡ top * down e * 2 + down e = odds top (down e) in
+    let k : top * down e ≤ 8388607 * down e = mul-le-mul-right (down e) m in
+    record { digits = n; exponent = e; is = ap (λ (s : Bool). fin s n e) (v .0); least = omega (arith, v .1); below = omega (arith, v .1, down-pos e) }
 
-inf-below : (top : ℕ) → top ≤ 8388607 → lt (inf false) (ofCount top) ≡ true → ⊥
-inf-below top m l = true≢false (sym l ∙ inf-not-below (ofCount top) top (count-value top (le-trans m (lit≤ tt))))
+top-whole : (t : Float) (top : ℕ) → top ≤ 8388607 → HasValue t false (top * 2 + 1) 2 → toUnsigned 64 t ≡ top
+top-whole t top m v =
+    let q : (top * 2 + 1) / 2 ≡ top = omega arith in
+    whole-at 64 t (top * 2 + 1) 2 (lit< tt) v ∙ ap (λ (k : ℕ). min k 18446744073709551615) q ∙ min-eq-left (le-trans m (lit≤ tt))
 
--- ---- x is above 0 and below the top
-pub inside : (x t : Float) (top : ℕ) → top ≤ 8388607 → t ≡ ofCount top → lt (fin false 0 (pos 0)) x ≡ true → lt x t ≡ true → (toUnsigned 64 x ≡ min (toUnsigned 64 x) top) × Small x
-inside x t top m q a b = go x a (ap (lt x) (sym q) ∙ b)
+outside : (y t : Float) (top : ℕ) → top ≤ 8388607 → HasValue t false (top * 2 + 1) 2 → Half y → lt y t ≡ false → (toUnsigned 64 t ≡ min (toUnsigned 64 y) top) × Small t
+outside y t top m v h l = (top-whole t top m v ∙ sym (min-eq-right (go y h l)), top-small t top m v)
   where
-    go : (y : Float) → lt (fin false 0 (pos 0)) y ≡ true → lt y (ofCount top) ≡ true → (toUnsigned 64 y ≡ min (toUnsigned 64 y) top) × Small y
-    go nan g l = absurd (nan-above g)
-    go (inf true) g l = absurd (minus-above g)
-    go (inf false) g l = absurd (inf-below top m l)
-    go (fin true n e) g l = absurd (minus-fin-above n e g)
-    go (fin false n e) g l =
-        let v : n * up e * 1 < top * down e = values-below (fin false n e) (ofCount top) (n * up e) (down e) top 1 (down-pos e) (lit< tt) (own n e) (count-value top (le-trans m (lit≤ tt))) l in
-        let k : top * down e ≤ 8388607 * down e = mul-le-mul-right (down e) m in
-        let w : n * up e / down e < top = div-lt-iff-lt-mul (down-pos e) .1 (omega arith) in
-        let u : toUnsigned 64 (fin false n e) ≤ top =
-        le-trans (le-of-eq (whole-at 64 (fin false n e) (n * up e) (down e) (down-pos e) (own n e)))
-        (le-trans (min-le-left (n * up e / down e) 18446744073709551615) (le-of-lt w)) in
-        (sym (min-eq-left u), record { digits = n; exponent = e; is = refl; below = omega (arith, down-pos e) })
-
--- ---- x is not below the top
-pub outside : (x t : Float) (top : ℕ) → top ≤ 8388607 → t ≡ ofCount top → lt (fin false 0 (pos 0)) x ≡ true → lt x t ≡ false → (toUnsigned 64 t ≡ min (toUnsigned 64 x) top) × Small t
-outside x t top m q a b =
-    (ap (toUnsigned 64) q ∙ count-whole top m ∙ sym (min-eq-right (go x a (ap (lt x) (sym q) ∙ b))), subst Small (sym q) (small-value (ofCount top) top m (count-value top (le-trans m (lit≤ tt)))))
-  where
-    go : (y : Float) → lt (fin false 0 (pos 0)) y ≡ true → lt y (ofCount top) ≡ false → top ≤ toUnsigned 64 y
-    go nan g l = absurd (nan-above g)
-    go (inf true) g l = absurd (minus-above g)
-    go (inf false) g l = le-trans m (le-trans (lit≤ tt) (le-of-eq (sym inf-whole)))
-    go (fin true n e) g l = absurd (minus-fin-above n e g)
-    go (fin false n e) g l =
-        let v : top * down e ≤ n * up e * 1 = values-not-below (fin false n e) (ofCount top) (n * up e) (down e) top 1 (down-pos e) (lit< tt) (own n e) (count-value top (le-trans m (lit≤ tt))) l in
+    go : (f : Float) → Half f → lt f t ≡ false → top ≤ toUnsigned 64 f
+    go nan g k = absurd g
+    go (inf s) g k = le-trans m (le-trans (lit≤ tt) (le-of-eq (sym (ap (λ (b : Bool). toUnsigned 64 (inf b)) g ∙ inf-whole))))
+    go (fin true n e) g k = absurd (true≢false (g .0))
+    go (fin false n e) g k =
+        let a : (top * 2 + 1) * down e ≤ n * up e * 2 = values-not-below (fin false n e) t (n * up e) (down e) (top * 2 + 1) 2 (down-pos e) (lit< tt) (own n e) v k in
+        let o : (top * 2 + 1) * down e ≡ top * down e * 2 + down e = odds top (down e) in
         let w : top ≤ n * up e / down e = le-div-iff-mul-le (down-pos e) .1 (omega arith) in
         le-trans (le-min w (le-trans m (lit≤ tt))) (le-of-eq (sym (whole-at 64 (fin false n e) (n * up e) (down e) (down-pos e) (own n e))))
+
+-- ---- a float raised to a half, and held at the top and a half
+module _ (x y t : Float) (top : ℕ) (m : top ≤ 8388607) (q : t ≡ ofCount top ⊕ half) (r : y ≡ cond (lt half x) x half) where
+  up-is : (Half y) × (toUnsigned 64 y ≡ toUnsigned 64 x)
+  unfolding decimal
+  up-is = subst (λ (f : Float). Half f × (toUnsigned 64 f ≡ toUnsigned 64 x)) (sym r) (raised x)
+
+  value-is : HasValue t false (top * 2 + 1) 2
+  unfolding decimal
+  value-is = top-value t top m q
+
+  pub held-inside : lt y t ≡ true → (toUnsigned 64 y ≡ min (toUnsigned 64 x) top) × Small y
+  held-inside l =
+      let i = inside y t top m value-is (up-is .0) l in
+      (i .0 ∙ ap (λ (n : ℕ). min n top) (up-is .1), i .1)
+
+  pub held-outside : lt y t ≡ false → (toUnsigned 64 t ≡ min (toUnsigned 64 x) top) × Small t
+  held-outside l =
+      let i = outside y t top m value-is (up-is .0) l in
+      (i .0 ∙ ap (λ (n : ℕ). min n top) (up-is .1), i .1)
 
 -- ---- whether it was held
 order : (A B : ℕ) → (ltb A B || (eqb A B && (true || eqb A 0))) ≡ leb A B
@@ -188,7 +215,7 @@ unfolding ofInt sub
 zero-minus zero h = refl
 zero-minus (suc k) h = zero-less (ofCount (suc k)) k (count-value (suc k) h)
 
--- ---- a whole number with a sign, and a whole number back as a number
+-- ---- a whole number with a sign
 sign-put : (b : Bool) (k : ℕ) → k ≤ 16777216 → cond b (fin false 0 (pos 0) ⊖ ofCount k) (ofCount k) ≡ ofInt binary32 (cond b (negℤ (pos k)) (pos k))
 sign-put true k h = zero-minus k h
 sign-put false k h = refl
@@ -203,8 +230,3 @@ signed-float x m n e l q =
     ap (λ (y : Float). cond (lt x (fin false 0 (pos 0))) (fin false 0 (pos 0) ⊖ y) y) q
     ∙ sign-put (lt x (fin false 0 (pos 0))) k (le-trans h (lit≤ tt))
     ∙ ap (ofInt binary32) (signed-small x k s (ap (λ (y : Float). lt y (fin false 1 (pos 23))) (sym e) ∙ l))
-
-pub whole-back : (r : Float) (k : ℕ) → k ≤ 8388607 → r ≡ ofCount k → T (inUnsigned binary32 32 r) × (toUnsigned 32 r ≡ k)
-whole-back r k h e =
-    let b = unsigned-back binary32 32 k (in-float k (le-trans h (lit≤ tt))) (lt-of-le-of-lt h (lit< tt)) in
-    rw e b

@@ -6,7 +6,6 @@ pub mod Rounding
 pub mod Signs
 pub mod Parts
 pub mod Values
-pub mod ByRounding
 pub mod HeldWhole
 pub mod ByFields
 pub mod Bench

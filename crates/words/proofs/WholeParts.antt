@@ -1,12 +1,12 @@
--- The whole part of a float by its value, and by tests of the float: below -1, from 2 ^ 64 on, and as an i32 from the unsigned one.
+-- The whole part of a float by its value, and as an i32 from the unsigned one.
 use mathlib.Core.Path.{_≡_, refl, sym, ap, _∙_}
 use mathlib.Core.Bool.{Bool, true, false, cond, true≢false, false≢true}
 use Prim.Native.Nat.{ℕ, zero, suc, _+_, _*_, _/_, _≤_, _<_, _-_, _^_, min}
-use native.Mathlib.Nat.{le-div-iff-mul-le, div-lt-iff-lt-mul, min-le-left, le-trans, min-eq-right, min-eq-left, zero-min, zero-div}
+use native.Mathlib.Nat.{div-lt-iff-lt-mul, min-le-left, le-trans, min-eq-right, min-eq-left, zero-min, zero-div}
 use native.Mathlib.Omega.{arith}
-use borrow.Author.Tests.{ltb-true, ltb-false, lt-ltb, leb-true, leb-false}
+use borrow.Author.Tests.{ltb-true, ltb-false, leb-true, leb-false}
 use lib.IntN.{ℤ, pos, negℤ, _-ℤ_, +ℤ-idl}
-use lib.Dec.{ltb, leb, lit≤, lit<}
+use lib.Dec.{leb, lit≤, lit<}
 use mir.Val.{SFits, toZ, ofZ}
 use mir.Facts.{toZ-pos, toZ-ofZ}
 use mir.Syntax.{w32}
@@ -14,9 +14,6 @@ use lib.Ieee.{Float, nan, inf, fin, up, down, lt, neg, binary32, ofBits, toUnsig
 use lib.Ieee.Fits.{down-pos}
 use lib.Ieee.Nearest.{div-same}
 use lib.Ieee.Exact.{HasValue}
-
-absurd-tf : {A : Type 0} → true ≡ false → A
-absurd-tf e = absurd (true≢false e)
 
 -- of a float that is a / c in size, with the sign s
 pub unsigned-at : (w : ℕ) (x : Float) (s : Bool) (a c : ℕ) → 0 < c → HasValue x s a c → toUnsigned w x ≡ cond s 0 (min (a / c) (2 ^ w - 1))
@@ -38,31 +35,6 @@ whole-at w x a c p v = unsigned-at w x false a c p v
 pub signed-at : (h : ℕ) (x : Float) (a c : ℕ) → 0 < c → HasValue x false a c → toSigned h x ≡ pos (min (a / c) (2 ^ h - 1))
 signed-at h x a c p v = signed-at-sign h x false a c p v
 
--- a test that 0 is below something fails, and the something is not 0
-not-zero : {A : Type 0} (n : ℕ) → 0 < n → ltb 0 n ≡ false → A
-not-zero n p h = absurd-tf (sym (lt-ltb 0 n p) ∙ h)
-
--- -1 < x fails: the whole part is 0
-pub whole-low : (x : Float) → lt (fin true 1 (pos 0)) x ≡ false → toUnsigned 64 x ≡ 0
-unfolding lt toUnsigned
-whole-low nan h = refl
-whole-low (inf true) h = refl
-whole-low (inf false) h = absurd-tf h
-whole-low (fin true m e) h = refl
-whole-low (fin false m e) h = not-zero (1 * down e + m * up e * 1) (omega (arith, down-pos e)) h
-
--- x is no less than 2 ^ 64: the largest
-pub whole-high : (x : Float) → lt (fin true 1 (pos 0)) x ≡ true → lt x (fin false 1 (pos 64)) ≡ false → toUnsigned 64 x ≡ 18446744073709551615
-unfolding lt toUnsigned
-whole-high nan l h = absurd (false≢true l)
-whole-high (inf true) l h = absurd (false≢true l)
-whole-high (inf false) l h = refl
-whole-high (fin true m e) l h = not-zero (m * up e * 1 + 18446744073709551616 * down e) (omega (arith, down-pos e)) h
-whole-high (fin false m e) l h =
-    let b : 18446744073709551616 * down e ≤ m * up e * 1 = ltb-false (m * up e * 1) (18446744073709551616 * down e) h in
-    let q : 18446744073709551616 ≤ m * up e / down e = le-div-iff-mul-le (down-pos e) .1 (omega arith) in
-    min-eq-right (omega arith)
-
 -- ---- as an i32
 -- a number that was cut at N or not at all, cut at a lower M
 pub cut-twice : (q N M : ℕ) → M ≤ N → min q M ≡ min (min q N) M
@@ -80,7 +52,7 @@ cut-twice q N M h = go (leb q N) refl
 pub signed-up : (x : Float) → lt x (fin false 0 (pos 0)) ≡ false → toSigned 31 x ≡ pos (min (toUnsigned 64 x) 2147483647)
 unfolding lt toUnsigned toSigned
 signed-up nan h = refl
-signed-up (inf true) h = absurd-tf h
+signed-up (inf true) h = absurd (true≢false h)
 signed-up (inf false) h = refl
 signed-up (fin true m e) h =
     let z : m * up e ≡ 0 = omega (arith, ltb-false 0 (m * up e * 1 + 0 * down e) h) in

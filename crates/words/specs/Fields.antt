@@ -1,11 +1,11 @@
 -- Document 02, N3: whole parts in the order of IEEE 754-2019, 3.4, where a binary32 word is a sign, a biased exponent and a trailing significand.
 -- "Show for every word, by an equation in these three, what each whole part is, unsigned and to i32, NaN and saturation included, and that it is the same as before."
-use Prim.Native.Nat.{ℕ, min, _+_, _-_, _*_, _/_, _%_, _^_}
+use Prim.Native.Nat.{ℕ, min, _+_, _-_, _*_, _/_, _%_, _^_, _<_}
 use mathlib.Core.Path.{_≡_}
-use mathlib.Core.Bool.{Bool, not, _&&_, _||_, cond}
+use mathlib.Core.Bool.{Bool, true, not, _&&_, _||_, cond}
 use lib.Dec.{ltb, leb, eqb}
 use lib.IntN.{ℤ, pos, negℤ}
-use lib.Ieee.{Float, binary32, toUnsigned, toSigned, ofInt}
+use lib.Ieee.{Float, binary32, fits, toBits, ofBits, toUnsigned, toSigned, ofInt}
 use Rattle.words.specs.Binary32.{_⊖_, ofCount}
 use Rattle.words.specs.Parts.{wholeFloat, wholeI32Float, partOf}
 
@@ -54,14 +54,14 @@ signedWhole S E T =
 
 -- ---- the claim
 
--- Both whole parts of the word w.
+-- Both whole parts by the fields of the word w.
 abbrev pub unsignedOf : ℕ → ℕ
 unsignedOf w = unsignedWhole (sign w) (biasedExponent w) (trailingSignificand w)
 
 abbrev pub signedOf : ℕ → ℤ
 signedOf w = signedWhole (sign w) (biasedExponent w) (trailingSignificand w)
 
--- Of a float x with the word w: every whole part that is taken anywhere, as the contracts have always said it, is the one of w's fields.
+-- The float x has the word w: each whole part that is taken of x anywhere, as the contracts have always said it, is the one by w's fields.
 pub record ByFields (x : Float) (w : ℕ) : Type 0 where
   pub word : w ≡ sign w * 2 ^ 31 + biasedExponent w * 2 ^ 23 + trailingSignificand w
   pub unsigned : toUnsigned 64 x ≡ unsignedOf w
@@ -71,3 +71,11 @@ pub record ByFields (x : Float) (w : ℕ) : Type 0 where
   pub whole : (top : ℕ) → partOf top x .whole ≡ min (unsignedOf w) top
   pub fraction : (top : ℕ) → partOf top x .fraction ≡ x ⊖ ofCount (min (unsignedOf w) top)
   pub held : (top : ℕ) → partOf top x .held ≡ ltb top (unsignedOf w)
+
+-- "Show for every word": of its float,
+abbrev pub EveryWord : Type 0
+EveryWord = (w : ℕ) → w < 2 ^ 32 → ByFields (ofBits binary32 w) w
+
+-- and of every float that binary32 holds, by its word.
+abbrev pub EveryFloat : Type 0
+EveryFloat = (x : Float) → fits binary32 x ≡ true → ByFields x (toBits binary32 x)

@@ -1,6 +1,8 @@
 // The three fields of a binary32 word, and whole parts by these, in the order of IEEE 754-2019, 3.4: sign S, biased exponent E, trailing significand T.
 ghost use mathlib.Core.Path.{_≡_};
-ghost use Prim.Native.Nat.{_+_, _<_, _≤_};
+ghost use Prim.Native.Nat.{_+_, _<_};
+ghost use lib.Ieee.{toUnsigned};
+ghost use Rattle.words.specs.Inner.{Small};
 ghost use Rattle.words.specs.Fields.{sign, biasedExponent, trailingSignificand, isNan, wholeMagnitude, unsignedWhole, signedWhole};
 
 // The bias of the exponent: E is the exponent and this.
@@ -37,18 +39,26 @@ fn is_nan(e: u32, t: u32) -> bool
     e == 255 && t != 0
 }
 
-// The whole part of the magnitude: the significand with its leading bit put back, shifted by the exponent.
+// The significand as a whole number: T with its implicit leading bit put back.
+fn significand(t: u32) -> u32
+    requires { ⌜ t < 8388608 ⌝ }
+    ensures { λ r. ⌜ r ≡ 8388608 + t ⌝ }
+{
+    0x800000 + t
+}
+
+// The whole part of the magnitude: the significand shifted as the exponent says.
 fn whole_magnitude(e: u32, t: u32) -> u64
     requires { ⌜ (e < 191) × (t < 8388608) ⌝ }
     ensures { λ r. ⌜ r ≡ wholeMagnitude e t ⌝ }
 {
-    let significand = (0x800000 + t) as u64;
+    let m = significand(t) as u64;
     if e < BIAS {
         0
     } else if e <= ONES {
-        significand >> (ONES - e)
+        m >> (ONES - e)
     } else {
-        significand << (e - ONES)
+        m << (e - ONES)
     }
 }
 
@@ -81,4 +91,15 @@ pub fn signed_whole(s: u32, e: u32, t: u32) -> i32
     } else {
         if s == 1 { -2147483648 } else { 2147483647 }
     }
+}
+
+// The whole part of a float from a half to below 2 to the power 23: its sign is 0, so its word is E and T, and it needs no test.
+pub fn small_whole(y: f32) -> u32
+    requires { ⌜ Small y ⌝ }
+    ensures { λ r. ⌜ r ≡ toUnsigned 64 y ⌝ }
+{
+    let w = f32::to_bits(y);
+    let e = w / 0x800000;
+    let t = trailing_significand(w);
+    significand(t) >> (ONES - e)
 }

@@ -1,12 +1,11 @@
 // Words and floats: a float's word, a word's float, whole parts, and whole numbers as floats.
 ghost use mathlib.Core.Path.{_≡_};
 ghost use Prim.Native.Nat.{compare, min, _+_, _*_, _/_, _≤_, _<_};
-ghost use mathlib.Core.Bool.{cond, false};
-ghost use lib.IntN.{pos};
-ghost use lib.Ieee.{binary32, toBits, ofBits, toUnsigned, toSigned, ofInt, nearest, neg, lt, fin};
-ghost use Rattle.words.specs.Binary32.{_⊖_, ofCount};
+ghost use mathlib.Core.Bool.{cond};
+ghost use lib.Ieee.{binary32, toBits, ofBits, toUnsigned, toSigned, ofInt, nearest, neg, lt};
+ghost use Rattle.words.specs.Binary32.{_⊕_, _⊖_, ofCount};
 ghost use Rattle.words.specs.Parts.{wholeFloat, wholeI32Float, partOf};
-ghost use Rattle.words.specs.Inner.{Scaled, Small};
+ghost use Rattle.words.specs.Inner.{half, Scaled, Small};
 
 // Whole parts by a word's three fields.
 mod fields;
@@ -112,33 +111,29 @@ pub fn float_of_i32(n: i32) -> f32
     }
 }
 
-// x between 0 and `top`, which `t` is as a float: a float with the whole part of x held there.
+// x, or a half where x is not above that: a float with the same whole part.
+fn at_least_half(x: f32) -> f32
+    ensures { λ r. ⌜ r ≡ cond (lt half x) x half ⌝ }
+{
+    if x > 0.5 { x } else { 0.5 }
+}
+
+// x between a half and `t`, which is `top` and a half: a float with the whole part of x held at `top`.
 fn held_between(x: f32, top: usize, t: f32) -> f32
-    requires { ⌜ (top ≤ 8388607) × (t ≡ ofCount top) ⌝ }
+    requires { ⌜ (top ≤ 8388607) × (t ≡ ofCount top ⊕ half) ⌝ }
     ensures { λ r. ⌜ toUnsigned 64 r ≡ min (toUnsigned 64 x) top ⌝ }
     ensures { λ r. ⌜ Small r ⌝ }
 {
-    if x > 0.0 {
-        if x < t { x } else { t }
-    } else {
-        0.0
-    }
+    let y = at_least_half(x);
+    if y < t { y } else { t }
 }
 
-// 1 where r is above y, else 0.
-fn one_above(r: f32, y: f32) -> f32
-    ensures { λ d. ⌜ d ≡ cond (lt y r) (fin false 1 (pos 0)) (fin false 0 (pos 0)) ⌝ }
+// A whole number up to 2 to the power 24 as a float, which is exact.
+fn float_of_small(n: u32) -> f32
+    requires { ⌜ n ≤ 16777216 ⌝ }
+    ensures { λ r. ⌜ r ≡ ofCount n ⌝ }
 {
-    if r > y { 1.0 } else { 0.0 }
-}
-
-// The whole part of a small float, as a float: 2 to the power 23 on top leaves no digit for a fraction.
-fn lower(y: f32) -> f32
-    requires { ⌜ Small y ⌝ }
-    ensures { λ r. ⌜ r ≡ wholeFloat y ⌝ }
-{
-    let r = (y + 8388608.0) - 8388608.0;
-    r - one_above(r, y)
+    (n as i32) as f32
 }
 
 // The whole part of a float, as a float.
@@ -146,7 +141,7 @@ pub fn whole_float(x: f32) -> f32
     ensures { λ r. ⌜ r ≡ wholeFloat x ⌝ }
 {
     if x < 8388608.0 {
-        lower(held_between(x, 8388607, 8388607.0))
+        float_of_small(fields::small_whole(held_between(x, 8388607, 8388607.5)))
     } else {
         float_of_u64(whole(x))
     }
@@ -185,15 +180,15 @@ pub struct Part {
     pub held: bool,
 }
 
-// A position whose whole part is held at a `top` below 2 to the power 23, which `t` is as a float, and `above` the number after it.
+// A position whose whole part is held at a `top` below 2 to the power 23; `t` is `top` and a half, and `above` the number after `top`.
 fn near_part(x: f32, top: usize, t: f32, above: f32) -> Part
-    requires { ⌜ (top < 8388607) × ((t ≡ ofCount top) × (above ≡ ofCount (top + 1))) ⌝ }
+    requires { ⌜ (top < 8388607) × ((t ≡ ofCount top ⊕ half) × (above ≡ ofCount (top + 1))) ⌝ }
     ensures { λ r. ⌜ r ≡ partOf top x ⌝ }
 {
-    let n = lower(held_between(x, top, t));
+    let n = fields::small_whole(held_between(x, top, t));
     Part {
-        whole: (n as u32) as usize,
-        fraction: x - n,
+        whole: n as usize,
+        fraction: x - float_of_small(n),
         held: x >= above,
     }
 }
@@ -226,7 +221,7 @@ pub fn held_part(x: f32, top: usize) -> Part
         near_part(
             x,
             top,
-            float_of_u64(top as u64),
+            float_of_u64(top as u64) + 0.5,
             float_of_u64((top + 1) as u64),
         )
     } else {

@@ -2,6 +2,8 @@
 use borrow.Author.Needs.{needs}
 use borrow.Author.Tests.{eq-eqb, ne-eqb, lt-ltb, le-ltb}
 use mathlib.Core.Path.{sym, _∙_}
+use Prim.Native.Nat.{_<_}
+use native.Mathlib.Omega.{arith}
 use lib.Dec.{lit≤}
 use Rattle.words.specs.Fields.{unsignedWhole}
 use Rattle.words.proofs.ByFields.{not-special}
@@ -24,8 +26,9 @@ returns c = simp (eq-eqb _ _ (c .if1 .taken))
 returns-2 : tie.Need-returns-2
 unfolding unsignedWhole
 returns-2 c =
-    let l = c .before .if2 .taken in
-    simp (ne-eqb _ _ (c .before .before .if1 .left), not-special _ _ l (lit≤ tt), lt-ltb _ _ l, c .whole-magnitude .ensures)
+    let e = c .before .before .before .args .e in
+    let l : e < 191 = omega (arith, c .before .if2 .taken) in
+    simp (ne-eqb _ _ (c .before .before .if1 .left), not-special e 191 l (lit≤ tt), lt-ltb e 191 l, c .whole-magnitude .ensures)
 
 returns-3 : tie.Need-returns-3
 unfolding unsignedWhole

@@ -8,11 +8,11 @@ use Rattle.words.specs.Fields.{wholeMagnitude}
 use Rattle.words.proofs.fields.whole_magnitude.Statement.{statement}
 use Rattle.words.proofs.fields.whole_magnitude.Tie as tie
 
-add-significand : tie.Need-add-significand
-add-significand c = search needs
+significand-requires : tie.Need-significand-requires
+significand-requires c κs = search needs
 
-cast-significand : tie.Need-cast-significand
-cast-significand c = search needs
+cast-m : tie.Need-cast-m
+cast-m c = search needs
 
 cast-result : tie.Need-cast-result
 cast-result c = search needs
@@ -35,20 +35,20 @@ returns c = simp (lt-ltb _ _ (c .if1 .taken))
 
 returns-2 : tie.Need-returns-2
 unfolding wholeMagnitude
-returns-2 c = simp (le-ltb _ _ (c .before .if1 .left), le-leb _ _ (c .if2 .taken))
+returns-2 c = simp (le-ltb _ _ (c .before .if1 .left), le-leb _ _ (c .if2 .taken), c .before .before .significand .ensures)
 
 returns-3 : tie.Need-returns-3
 unfolding wholeMagnitude
 returns-3 c =
-    let a = c .before .before .args in
-    rw (le-ltb _ _ (c .before .if1 .left), lt-leb _ _ (c .if2 .left)) (shl-exact {a = 8388608 + a .t} 24 (a .e - 150) 64 (omega arith) (omega arith))
+    let a = c .before .before .before .args in
+    rw (le-ltb _ _ (c .before .if1 .left), lt-leb _ _ (c .if2 .left), c .before .before .significand .ensures) (shl-exact {a = 8388608 + a .t} 24 (a .e - 150) 64 (omega arith) (omega arith))
 
 pub whole-magnitude-spec : {M : Type 1} → statement M
 whole-magnitude-spec =
     tie.close
     (tie.spec
-    add-significand
-    cast-significand
+    significand-requires
+    cast-m
     cast-result
     shr-result
     sub-result
