@@ -8,4 +8,5 @@ pub mod Parts
 pub mod Values
 pub mod HeldWhole
 pub mod ByFields
+pub mod SmallWhole
 pub mod Bench

@@ -7,7 +7,7 @@ use lib.Dec.{T}
 use lib.Ieee.{Float, isNan}
 use denote.Floats.{passes}
 use Rattle.words.specs.Inner.{Small}
-use Rattle.words.proofs.ByFields.{small-whole}
+use Rattle.words.proofs.SmallWhole.{small-whole}
 use Rattle.words.proofs.fields.small_whole.Statement.{statement}
 use Rattle.words.proofs.fields.small_whole.Tie as tie
 
