@@ -5,7 +5,7 @@ use lib.IntN.{pos, negsuc}
 use lib.Ieee.{nan, fin, binary32, neg, toUnsigned, toSigned, ofInt}
 use Rattle.words.specs.Binary32.{decimal, ofCount}
 use Rattle.words.specs.Parts.{wholePart, wholeFloat, wholeI32Float}
-use Rattle.words.specs.Fields.{sign, biasedExponent, trailingSignificand, wholeMagnitude, unsignedWhole, signedWhole, unsignedOf, signedOf}
+use Rattle.words.specs.Fields.{signOf, biasedExponent, trailingSignificand, wholeMagnitude, unsignedWhole, signedWhole, unsignedOf, signedOf}
 
 -- "whole part of 2.75 is 2"
 whole-of-2·75 : wholePart (decimal 275 2) ≡ 2
@@ -42,7 +42,7 @@ i32-most-as-float = refl
 
 -- ---- document 02, N3: the same by a word's fields, and the words where an answer turns
 -- 2.75 is 40300000: sign 0, biased exponent 128, trailing significand 3145728
-fields-of-2·75 : (sign 0x40300000 ≡ 0) × (biasedExponent 0x40300000 ≡ 128) × (trailingSignificand 0x40300000 ≡ 3145728)
+fields-of-2·75 : (signOf 0x40300000 ≡ 0) × (biasedExponent 0x40300000 ≡ 128) × (trailingSignificand 0x40300000 ≡ 3145728)
 fields-of-2·75 = (refl, refl, refl)
 
 whole-by-fields-of-2·75 : unsignedOf 0x40300000 ≡ 2

@@ -14,33 +14,34 @@ use lib.Ieee.Exact.{HasValue, odd-sign}
 use lib.Ieee.Nearest.{div-same}
 use Rattle.words.specs.Binary32.{_⊖_, ofCount}
 use Rattle.words.specs.Parts.{partOf}
-use Rattle.words.specs.Fields.{sign, biasedExponent, trailingSignificand, wholeMagnitude, unsignedWhole, signedWhole, ByFields, EveryWord, EveryFloat}
+use Rattle.words.specs.Fields.{signOf, biasedExponent, trailingSignificand, wholeMagnitude, unsignedWhole, signedWhole, ByFields, EveryWord, EveryFloat}
 use Rattle.words.proofs.WholeParts.{unsigned-at, signed-at-sign}
 
 -- ---- the value of a float by its fields, where E is no infinity's or NaN's
 pub not-special : (e below : ℕ) → e < below → below ≤ 255 → eqb e 255 ≡ false
 not-special e below h l = ne-eqb e 255 (λ q. absurd (omega arith))
 
-abbrev pub digits : ℕ → ℕ → ℕ
-digits zero t = t * 2 ^ 0
-digits (suc e) t = (8388608 + t) * 2 ^ e
+-- the magnitude in units of 2 ^ -149, the smallest positive binary32
+abbrev pub units : ℕ → ℕ → ℕ
+units zero t = t * 2 ^ 0
+units (suc e) t = (8388608 + t) * 2 ^ e
 
-pub value : (s : Bool) (e t : ℕ) → e < 255 → HasValue (ofFields binary32 s e t) s (digits e t) (2 ^ 149)
+pub value : (s : Bool) (e t : ℕ) → e < 255 → HasValue (ofFields binary32 s e t) s (units e t) (2 ^ 149)
 unfolding ofFields
 value s zero t h = odd-sign 24 s t 0 149
 value s (suc e) t h = rw (not-special (suc e) 255 h (lit≤ tt)) (odd-sign 24 s (8388608 + t) e 149)
 
 -- ---- how large it is
-digits-below : (h e t : ℕ) → t < 8388608 → e < 127 + h → digits e t / 2 ^ 149 < 2 ^ h
-digits-below h zero t k l =
+units-below : (h e t : ℕ) → t < 8388608 → e < 127 + h → units e t / 2 ^ 149 < 2 ^ h
+units-below h zero t k l =
     div-lt-iff-lt-mul (pow-pos 149) .1 (subst (λ (x : ℕ). t * 2 ^ 0 < x) (pow-add 2 h 149) (lt-of-lt-of-le (shl-lt 23 0 k) (pow-mono {i = 23 + 0} {j = h + 149} (omega arith))))
-digits-below h (suc e) t k l =
+units-below h (suc e) t k l =
     let q : 8388608 + t < 2 ^ 24 = omega arith in
     div-lt-iff-lt-mul (pow-pos 149) .1 (subst (λ (x : ℕ). (8388608 + t) * 2 ^ e < x) (pow-add 2 h 149) (lt-of-lt-of-le (shl-lt 24 e q) (pow-mono {i = 24 + e} {j = h + 149} (omega arith))))
 
-pub digits-above : (h e t : ℕ) → 127 + h ≤ e → 2 ^ h ≤ digits e t / 2 ^ 149
-digits-above h zero t l = absurd (omega arith)
-digits-above h (suc e) t l =
+pub units-above : (h e t : ℕ) → 127 + h ≤ e → 2 ^ h ≤ units e t / 2 ^ 149
+units-above h zero t l = absurd (omega arith)
+units-above h (suc e) t l =
     let p : 2 ^ (h + 149) ≤ 2 ^ (23 + e) = pow-mono {i = h + 149} {j = 23 + e} (omega arith) in
     let q : 2 ^ 23 * 2 ^ e ≤ (8388608 + t) * 2 ^ e = mul-le-mul-right (2 ^ e) (omega arith) in
     le-div-iff-mul-le (pow-pos 149) .1 (le-trans (le-of-eq (sym (pow-add 2 h 149))) (le-trans p (le-trans (le-of-eq (pow-add 2 23 e)) q)))
@@ -62,29 +63,29 @@ left q e l =
 none : (n : ℕ) → n < 1 → n ≡ 0
 none n h = omega arith
 
-cut : (e t : ℕ) → t < 8388608 → digits e t / 2 ^ 149 ≡ wholeMagnitude e t
+cut : (e t : ℕ) → t < 8388608 → units e t / 2 ^ 149 ≡ wholeMagnitude e t
 unfolding wholeMagnitude
-cut zero t k = none (t * 2 ^ 0 / 2 ^ 149) (digits-below 0 0 t k (lit< tt))
+cut zero t k = none (t * 2 ^ 0 / 2 ^ 149) (units-below 0 0 t k (lit< tt))
 cut (suc e) t k = go (ltb (suc e) 127) refl (leb (suc e) 150) refl
   where
     go : (a : Bool) → ltb (suc e) 127 ≡ a → (b : Bool) → leb (suc e) 150 ≡ b
         → (8388608 + t) * 2 ^ e / 2 ^ 149 ≡ cond a 0 (cond b ((8388608 + t) / 2 ^ (150 - suc e)) ((8388608 + t) * 2 ^ (suc e - 150)))
-    go true p b r = none ((8388608 + t) * 2 ^ e / 2 ^ 149) (digits-below 0 (suc e) t k (ltb-true (suc e) 127 p))
+    go true p b r = none ((8388608 + t) * 2 ^ e / 2 ^ 149) (units-below 0 (suc e) t k (ltb-true (suc e) 127 p))
     go false p true r = right (8388608 + t) e (leb-true (suc e) 150 r)
     go false p false r = left (8388608 + t) e (leb-false (suc e) 150 r)
 
 -- so a magnitude is below 2 ^ h just where E is below 127 + h
 pub magnitude-below : (h e t : ℕ) → t < 8388608 → e < 127 + h → wholeMagnitude e t < 2 ^ h
-magnitude-below h e t k l = subst (λ (x : ℕ). x < 2 ^ h) (cut e t k) (digits-below h e t k l)
+magnitude-below h e t k l = subst (λ (x : ℕ). x < 2 ^ h) (cut e t k) (units-below h e t k l)
 
 magnitude-above : (h e t : ℕ) → t < 8388608 → 127 + h ≤ e → 2 ^ h ≤ wholeMagnitude e t
-magnitude-above h e t k l = subst (λ (x : ℕ). 2 ^ h ≤ x) (cut e t k) (digits-above h e t l)
+magnitude-above h e t k l = subst (λ (x : ℕ). 2 ^ h ≤ x) (cut e t k) (units-above h e t l)
 
 -- ---- saturation: cut at `top`, which is 2 ^ h or one below it
 at-most : (n p top : ℕ) → n < p → p ≤ top + 1 → min n top ≡ n
 at-most n p top k l = min-eq-left (omega arith)
 
-saturates : (h e t top : ℕ) → t < 8388608 → 2 ^ h ≤ top + 1 → top ≤ 2 ^ h → min (digits e t / 2 ^ 149) top ≡ cond (ltb e (127 + h)) (wholeMagnitude e t) top
+saturates : (h e t top : ℕ) → t < 8388608 → 2 ^ h ≤ top + 1 → top ≤ 2 ^ h → min (units e t / 2 ^ 149) top ≡ cond (ltb e (127 + h)) (wholeMagnitude e t) top
 saturates h e t top k a b = ap (λ (x : ℕ). min x top) (cut e t k) ∙ go (ltb e (127 + h)) refl
   where
     go : (c : Bool) → ltb e (127 + h) ≡ c → min (wholeMagnitude e t) top ≡ cond c (wholeMagnitude e t) top
@@ -108,7 +109,7 @@ finite : (S e t : ℕ) (s : Bool) → eqb S 1 ≡ s → e < 255 → t < 8388608 
 unfolding unsignedWhole signedWhole
 finite S e t s p h k = rw (not-special e 255 h (lit≤ tt), p) (unsigned s, to-i32 s)
   where
-    cut-at : (w top : ℕ) → 2 ^ w ≤ top + 1 → top ≤ 2 ^ w → min (digits e t / 2 ^ 149) top ≡ cond (ltb e (127 + w)) (wholeMagnitude e t) top
+    cut-at : (w top : ℕ) → 2 ^ w ≤ top + 1 → top ≤ 2 ^ w → min (units e t / 2 ^ 149) top ≡ cond (ltb e (127 + w)) (wholeMagnitude e t) top
     cut-at w top a b = saturates w e t top k a b
 
     unsigned : (b : Bool) → toUnsigned 64 (ofFields binary32 b e t) ≡ cond (b || false) 0 (cond (ltb e 191) (wholeMagnitude e t) 18446744073709551615)
@@ -120,7 +121,7 @@ finite S e t s p h k = rw (not-special e 255 h (lit≤ tt), p) (unsigned s, to-i
         ≡ cond (ltb e 158) (cond b (negℤ (pos (wholeMagnitude e t))) (pos (wholeMagnitude e t))) (cond b (negℤ (pos 2147483648)) (pos 2147483647))
     to-i32 b =
         signed-at-sign 31 _ b _ _ (pow-pos 149) (value b e t h)
-        ∙ ap (λ (n : ℕ). cond b (negℤ (pos n)) (pos (min (digits e t / 2 ^ 149) 2147483647))) (cut-at 31 2147483648 (lit≤ tt) (lit≤ tt))
+        ∙ ap (λ (n : ℕ). cond b (negℤ (pos n)) (pos (min (units e t / 2 ^ 149) 2147483647))) (cut-at 31 2147483648 (lit≤ tt) (lit≤ tt))
         ∙ ap (λ (n : ℕ). cond b (negℤ (pos (cond (ltb e 158) (wholeMagnitude e t) 2147483648))) (pos n)) (cut-at 31 2147483647 (lit≤ tt) (lit≤ tt))
         ∙ signs b (ltb e 158) (wholeMagnitude e t) 2147483648 2147483647
 
@@ -162,7 +163,7 @@ signed-bit w h = go (leb 2147483648 w) refl
 exponent-is : (w : ℕ) → w % 2147483648 / 8388608 ≡ w / 8388608 % 256
 exponent-is w = omega arith
 
-read-by-fields : (w : ℕ) → w < 4294967296 → Same (sign w) (biasedExponent w) (trailingSignificand w) (ofBits binary32 w)
+read-by-fields : (w : ℕ) → w < 4294967296 → Same (signOf w) (biasedExponent w) (trailingSignificand w) (ofBits binary32 w)
 unfolding ofBits
 read-by-fields w h =
     subst (λ (e : ℕ). Same (w / 2147483648) (w / 8388608 % 256) (w % 8388608) (ofFields binary32 (leb 2147483648 w) e (w % 8388608))) (sym (exponent-is w))
@@ -174,7 +175,7 @@ unfolding partOf
 every-word w h =
     let r = read-by-fields w h in
     record {
-      word = omega arith;
+      made-up = omega arith;
       unsigned = r .0;
       to-i32 = r .1;
       float = ap ofCount (r .0);

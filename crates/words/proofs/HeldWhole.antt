@@ -32,18 +32,14 @@ values-not-below x y a c b d p q v w h = go (leb (b * c) (a * d)) refl
     go false e = absurd (true≢false (sym (below-at x y a c b d p q v w (leb-false (b * c) (a * d) e)) ∙ h))
 
 -- ---- raised to a half, a float keeps its whole part
--- at least a half
-abbrev Half : Float → Type 0
-Half nan = ⊥
-Half (inf s) = s ≡ false
-Half (fin s m e) = (s ≡ false) × (down e ≤ m * up e * 2)
+-- at least a half, or infinite
+abbrev FromHalf : Float → Type 0
+FromHalf nan = ⊥
+FromHalf (inf s) = s ≡ false
+FromHalf (fin s m e) = (s ≡ false) × (down e ≤ m * up e * 2)
 
--- a half, as it is written
-abbrev ½ : Float
-½ = fin false 1 (negsuc 0)
-
-raised : (x : Float) → Half (cond (lt ½ x) x ½) × (toUnsigned 64 (cond (lt ½ x) x ½) ≡ toUnsigned 64 x)
-unfolding lt toUnsigned
+raised : (x : Float) → FromHalf (cond (lt half x) x half) × (toUnsigned 64 (cond (lt half x) x half) ≡ toUnsigned 64 x)
+unfolding lt toUnsigned decimal
 raised nan = ((refl, lit≤ tt), refl)
 raised (inf true) = ((refl, lit≤ tt), refl)
 raised (inf false) = (refl, refl)
@@ -51,7 +47,7 @@ raised (fin true m e) = ((refl, lit≤ tt), refl)
 raised (fin false m e) = go (ltb (1 * 1 * down e) (m * up e * 2)) refl
   where
     go : (b : Bool) → ltb (1 * 1 * down e) (m * up e * 2) ≡ b
-        → Half (cond b (fin false m e) ½) × (toUnsigned 64 (cond b (fin false m e) ½) ≡ min (m * up e / down e) 18446744073709551615)
+        → FromHalf (cond b (fin false m e) half) × (toUnsigned 64 (cond b (fin false m e) half) ≡ min (m * up e / down e) 18446744073709551615)
     go true h = ((refl, omega (arith, ltb-true (1 * 1 * down e) (m * up e * 2) h)), refl)
     go false h =
         let l : m * up e < down e = omega (arith, ltb-false (1 * 1 * down e) (m * up e * 2) h, down-pos e) in
@@ -61,9 +57,10 @@ raised (fin false m e) = go (ltb (1 * 1 * down e) (m * up e * 2)) refl
 odds : (top d : ℕ) → (top * 2 + 1) * d ≡ top * d * 2 + d
 odds top d = add-mul (top * 2) 1 d ∙ ap (λ (n : ℕ). n + 1 * d) (mul-right-comm top 2 d) ∙ ap (λ (n : ℕ). top * d * 2 + n) (one-mul d)
 
-top-value : (t : Float) (top : ℕ) → top ≤ 8388607 → t ≡ ofCount top ⊕ ½ → HasValue t false (top * 2 + 1) 2
+top-value : (t : Float) (top : ℕ) → top ≤ 8388607 → t ≡ ofCount top ⊕ half → HasValue t false (top * 2 + 1) 2
+unfolding decimal
 top-value t top m q =
-    subst (λ (f : Float). HasValue f false (top * 2 + 1) 2) (sym (q ∙ add-at (ofCount top) ½ top 1 1 2 (lit< tt) (lit< tt) (count-value top (le-trans m (lit≤ tt))) (own 1 (negsuc 0))))
+    subst (λ (f : Float). HasValue f false (top * 2 + 1) 2) (sym (q ∙ add-at (ofCount top) half top 1 1 2 (lit< tt) (lit< tt) (count-value top (le-trans m (lit≤ tt))) (own 1 (negsuc 0))))
     (round-exact binary32 false (top * 2 + 1) 2 (top * 2 + 1) 148 (lit< tt) few (lt-of-lt-of-le (shl-lt 24 148 few) (pow-mono {i = 24 + 148} {j = 277} (lit≤ tt))) (sym (mul-assoc (top * 2 + 1) (2 ^ 148) 2)))
   where
     few : top * 2 + 1 < 2 ^ 24
@@ -76,7 +73,7 @@ inf-not-below nan a c w = absurd w
 inf-not-below (inf b) a c w = absurd w
 inf-not-below (fin b n k) a c w = refl
 
-inside : (y t : Float) (top : ℕ) → top ≤ 8388607 → HasValue t false (top * 2 + 1) 2 → Half y → lt y t ≡ true → (toUnsigned 64 y ≡ min (toUnsigned 64 y) top) × Small y
+inside : (y t : Float) (top : ℕ) → top ≤ 8388607 → HasValue t false (top * 2 + 1) 2 → FromHalf y → lt y t ≡ true → (toUnsigned 64 y ≡ min (toUnsigned 64 y) top) × Small y
 inside nan t top m v h l = absurd h
 inside (inf s) t top m v h l = absurd (true≢false (sym l ∙ ap (λ (b : Bool). lt (inf b) t) h ∙ inf-not-below t (top * 2 + 1) 2 v))
 inside (fin true n e) t top m v h l = absurd (true≢false (h .0))
@@ -110,10 +107,10 @@ top-whole t top m v =
     let q : (top * 2 + 1) / 2 ≡ top = omega arith in
     whole-at 64 t (top * 2 + 1) 2 (lit< tt) v ∙ ap (λ (k : ℕ). min k 18446744073709551615) q ∙ min-eq-left (le-trans m (lit≤ tt))
 
-outside : (y t : Float) (top : ℕ) → top ≤ 8388607 → HasValue t false (top * 2 + 1) 2 → Half y → lt y t ≡ false → (toUnsigned 64 t ≡ min (toUnsigned 64 y) top) × Small t
+outside : (y t : Float) (top : ℕ) → top ≤ 8388607 → HasValue t false (top * 2 + 1) 2 → FromHalf y → lt y t ≡ false → (toUnsigned 64 t ≡ min (toUnsigned 64 y) top) × Small t
 outside y t top m v h l = (top-whole t top m v ∙ sym (min-eq-right (go y h l)), top-small t top m v)
   where
-    go : (f : Float) → Half f → lt f t ≡ false → top ≤ toUnsigned 64 f
+    go : (f : Float) → FromHalf f → lt f t ≡ false → top ≤ toUnsigned 64 f
     go nan g k = absurd g
     go (inf s) g k = le-trans m (le-trans (lit≤ tt) (le-of-eq (sym (ap (λ (b : Bool). toUnsigned 64 (inf b)) g ∙ inf-whole))))
     go (fin true n e) g k = absurd (true≢false (g .0))
@@ -125,23 +122,18 @@ outside y t top m v h l = (top-whole t top m v ∙ sym (min-eq-right (go y h l))
 
 -- ---- a float raised to a half, and held at the top and a half
 module _ (x y t : Float) (top : ℕ) (m : top ≤ 8388607) (q : t ≡ ofCount top ⊕ half) (r : y ≡ cond (lt half x) x half) where
-  up-is : (Half y) × (toUnsigned 64 y ≡ toUnsigned 64 x)
-  unfolding decimal
-  up-is = subst (λ (f : Float). Half f × (toUnsigned 64 f ≡ toUnsigned 64 x)) (sym r) (raised x)
-
-  value-is : HasValue t false (top * 2 + 1) 2
-  unfolding decimal
-  value-is = top-value t top m q
+  raised-is : (FromHalf y) × (toUnsigned 64 y ≡ toUnsigned 64 x)
+  raised-is = subst (λ (f : Float). FromHalf f × (toUnsigned 64 f ≡ toUnsigned 64 x)) (sym r) (raised x)
 
   pub held-inside : lt y t ≡ true → (toUnsigned 64 y ≡ min (toUnsigned 64 x) top) × Small y
   held-inside l =
-      let i = inside y t top m value-is (up-is .0) l in
-      (i .0 ∙ ap (λ (n : ℕ). min n top) (up-is .1), i .1)
+      let i = inside y t top m (top-value t top m q) (raised-is .0) l in
+      (i .0 ∙ ap (λ (n : ℕ). min n top) (raised-is .1), i .1)
 
   pub held-outside : lt y t ≡ false → (toUnsigned 64 t ≡ min (toUnsigned 64 x) top) × Small t
   held-outside l =
-      let i = outside y t top m value-is (up-is .0) l in
-      (i .0 ∙ ap (λ (n : ℕ). min n top) (up-is .1), i .1)
+      let i = outside y t top m (top-value t top m q) (raised-is .0) l in
+      (i .0 ∙ ap (λ (n : ℕ). min n top) (raised-is .1), i .1)
 
 -- ---- whether it was held
 order : (A B : ℕ) → (ltb A B || (eqb A B && (true || eqb A 0))) ≡ leb A B
@@ -226,7 +218,6 @@ unfolding ofBits
 signed-float x m n e l q =
     let k = toUnsigned 64 m in
     let h : k ≤ 8388607 = whole-below m l in
-    let s : k ≡ min (toUnsigned 64 (cond (lt x (fin false 0 (pos 0))) (neg x) x)) 8388607 = sym (min-eq-left h) ∙ ap (λ (y : Float). min (toUnsigned 64 y) 8388607) e in
     ap (λ (y : Float). cond (lt x (fin false 0 (pos 0))) (fin false 0 (pos 0) ⊖ y) y) q
     ∙ sign-put (lt x (fin false 0 (pos 0))) k (le-trans h (lit≤ tt))
-    ∙ ap (ofInt binary32) (signed-small x k s (ap (λ (y : Float). lt y (fin false 1 (pos 23))) (sym e) ∙ l))
+    ∙ ap (ofInt binary32) (signed-small x k (ap (toUnsigned 64) e) (ap (λ (y : Float). lt y (fin false 1 (pos 23))) (sym e) ∙ l))

@@ -15,7 +15,7 @@ use lib.Ieee.Exact.{HasValue}
 use Rattle.words.specs.Inner.{Small}
 use Rattle.words.proofs.Values.{own}
 use Rattle.words.proofs.WholeParts.{whole-at}
-use Rattle.words.proofs.ByFields.{digits, value, digits-above, right}
+use Rattle.words.proofs.ByFields.{units, value, units-above, right}
 
 -- two values of one float
 same-value : (x : Float) (s b : Bool) (a c n d : ℕ) → HasValue x s a c → HasValue x b n d → (s ≡ b) × (a * d ≡ n * c)
@@ -35,7 +35,7 @@ same-value (fin t m e) s b a c n d v w = (
 twice-below : (a j : ℕ) → a < 2 ^ j → j < 149 → a * 2 < 2 ^ 149
 twice-below a j h l = lt-of-lt-of-le (mul-lt-mul-of-pos-right h (lit< tt)) (le-trans (le-of-eq (sym (pow-suc 2 j))) (pow-mono l))
 
-below-half : (e t : ℕ) → t < 8388608 → e < 126 → digits e t * 2 < 2 ^ 149
+below-half : (e t : ℕ) → t < 8388608 → e < 126 → units e t * 2 < 2 ^ 149
 below-half zero t k l = twice-below (t * 2 ^ 0) (23 + 0) (shl-lt 23 0 k) (lit< tt)
 below-half (suc e) t k l =
     let q : 8388608 + t < 2 ^ 24 = omega arith in
@@ -57,7 +57,7 @@ finite-exponent s b e t a c h v = go (ltb e 255) refl
         let l : e ≡ 255 = omega arith in
         absurd (no-value s (eqb t 0) b a c (subst (λ (x : ℕ). HasValue (ofFields binary32 s x t) b a c) l v))
 
-shifted : (e t : ℕ) → 126 ≤ e → e ≤ 149 → (8388608 + t) / 2 ^ (150 - e) ≡ digits e t / 2 ^ 149
+shifted : (e t : ℕ) → 126 ≤ e → e ≤ 149 → (8388608 + t) / 2 ^ (150 - e) ≡ units e t / 2 ^ 149
 shifted zero t l h = absurd (omega arith)
 shifted (suc e) t l h = sym (right (8388608 + t) e (omega arith))
 
@@ -77,13 +77,13 @@ small-read s e t h k y =
     let p : 0 < c = down-pos (y .exponent) in
     let x = ofFields binary32 s e t in
     let v : HasValue x false a c = subst (λ (f : Float). HasValue f false a c) (sym (y .is)) (own (y .digits) (y .exponent)) in
-    let w : HasValue x s (digits e t) (2 ^ 149) = value s e t (finite-exponent s false e t a c h v) in
-    let q = same-value x false s a c (digits e t) (2 ^ 149) v w in
-    let lo : 2 ^ 149 ≤ digits e t * 2 = le-of-mul-le-mul-right (scaled-least a c (digits e t) (y .least) (q .1)) p in
-    let hi : digits e t / 2 ^ 149 < 2 ^ 23 = div-lt-iff-lt-mul (pow-pos 149) .1 (lt-of-mul-lt-mul-right c (scaled-below a c (digits e t) (y .below) (q .1))) in
+    let w : HasValue x s (units e t) (2 ^ 149) = value s e t (finite-exponent s false e t a c h v) in
+    let q = same-value x false s a c (units e t) (2 ^ 149) v w in
+    let lo : 2 ^ 149 ≤ units e t * 2 = le-of-mul-le-mul-right (scaled-least a c (units e t) (y .least) (q .1)) p in
+    let hi : units e t / 2 ^ 149 < 2 ^ 23 = div-lt-iff-lt-mul (pow-pos 149) .1 (lt-of-mul-lt-mul-right c (scaled-below a c (units e t) (y .below) (q .1))) in
     let l : 125 < e = lt-of-not-le (λ (g : e ≤ 125). not-le-of-lt (below-half e t k (omega (arith, g))) lo) in
-    let m : e ≤ 149 = le-of-suc-le-suc (lt-of-not-le (λ (g : 150 ≤ e). not-le-of-lt hi (digits-above 23 e t g))) in
-    let n : toUnsigned 64 x ≡ min (digits e t / 2 ^ 149) 18446744073709551615 = whole-at 64 x (digits e t) (2 ^ 149) (pow-pos 149) (subst (λ (b : Bool). HasValue x b (digits e t) (2 ^ 149)) (sym (q .0)) w) in
+    let m : e ≤ 149 = le-of-suc-le-suc (lt-of-not-le (λ (g : 150 ≤ e). not-le-of-lt hi (units-above 23 e t g))) in
+    let n : toUnsigned 64 x ≡ min (units e t / 2 ^ 149) 18446744073709551615 = whole-at 64 x (units e t) (2 ^ 149) (pow-pos 149) (subst (λ (b : Bool). HasValue x b (units e t) (2 ^ 149)) (sym (q .0)) w) in
     (sym (q .0), l, m, shifted e t l m ∙ sym (n ∙ min-eq-left (le-trans (le-of-lt hi) (lit≤ tt))))
 
 plain-exponent : (w : ℕ) → w < 2147483648 → w % 2147483648 / 8388608 ≡ w / 8388608

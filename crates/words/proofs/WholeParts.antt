@@ -89,18 +89,12 @@ whole-below (fin false m e) h =
     le-trans (min-le-left (m * up e / down e) 18446744073709551615) (omega arith)
 
 -- ---- as an i32, of a float below 2 ^ 23 in size
-pub signed-small : (x : Float) (n : ℕ) → n ≡ min (toUnsigned 64 (cond (lt x (ofBits binary32 0)) (neg x) x)) 8388607 → lt (cond (lt x (ofBits binary32 0)) (neg x) x) (fin false 1 (pos 23)) ≡ true
+pub signed-small : (x : Float) (n : ℕ) → n ≡ toUnsigned 64 (cond (lt x (ofBits binary32 0)) (neg x) x) → lt (cond (lt x (ofBits binary32 0)) (neg x) x) (fin false 1 (pos 23)) ≡ true
     → cond (lt x (ofBits binary32 0)) (negℤ (pos n)) (pos n) ≡ toSigned 31 x
 unfolding ofBits
 signed-small x n = go (lt x (fin false 0 (pos 0))) refl
   where
-    go : (b : Bool) → lt x (fin false 0 (pos 0)) ≡ b → n ≡ min (toUnsigned 64 (cond b (neg x) x)) 8388607 → lt (cond b (neg x) x) (fin false 1 (pos 23)) ≡ true
+    go : (b : Bool) → lt x (fin false 0 (pos 0)) ≡ b → n ≡ toUnsigned 64 (cond b (neg x) x) → lt (cond b (neg x) x) (fin false 1 (pos 23)) ≡ true
         → cond b (negℤ (pos n)) (pos n) ≡ toSigned 31 x
-    go true h e l =
-        let m : toUnsigned 64 (neg x) ≤ 8388607 = whole-below (neg x) l in
-        let k : min (toUnsigned 64 (neg x)) 2147483648 ≡ n = min-eq-left (omega arith) ∙ sym (e ∙ min-eq-left m) in
-        sym (signed-down x h ∙ ap (λ (y : ℕ). negℤ (pos y)) k)
-    go false h e l =
-        let m : toUnsigned 64 x ≤ 8388607 = whole-below x l in
-        let k : min (toUnsigned 64 x) 2147483647 ≡ n = min-eq-left (omega arith) ∙ sym (e ∙ min-eq-left m) in
-        sym (signed-up x h ∙ ap pos k)
+    go true h e l = sym (signed-down x h ∙ ap (λ (y : ℕ). negℤ (pos y)) (min-eq-left (le-trans (whole-below (neg x) l) (lit≤ tt)) ∙ sym e))
+    go false h e l = sym (signed-up x h ∙ ap pos (min-eq-left (le-trans (whole-below x l) (lit≤ tt)) ∙ sym e))

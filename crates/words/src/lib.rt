@@ -28,26 +28,26 @@ pub fn of_word(w: u32) -> f32
     }
 }
 
-// The whole part of a float, toward zero. NaN and what is below 0 give 0; it saturates.
+// The whole part of a float, toward zero. NaN and what is below 0 give 0; it saturates. It goes by the three fields of the float's word.
 pub fn whole(x: f32) -> u64
     ensures { λ r. ⌜ r ≡ toUnsigned 64 x ⌝ }
 {
-    let w = to_word(x);
-    let s = fields::sign(w);
-    let e = fields::biased_exponent(w);
-    let t = fields::trailing_significand(w);
-    fields::unsigned_whole(s, e, t)
+    let word = to_word(x);
+    let sign = fields::sign(word);
+    let biased = fields::biased_exponent(word);
+    let trailing = fields::trailing_significand(word);
+    fields::unsigned_whole(sign, biased, trailing)
 }
 
-// The whole part of a float as an i32. It saturates at both ends.
+// The whole part of a float as an i32, toward zero. NaN gives 0; it saturates at both ends.
 pub fn whole_i32(x: f32) -> i32
     ensures { λ r. ⌜ r ≡ toSigned 31 x ⌝ }
 {
-    let w = to_word(x);
-    let s = fields::sign(w);
-    let e = fields::biased_exponent(w);
-    let t = fields::trailing_significand(w);
-    fields::signed_whole(s, e, t)
+    let word = to_word(x);
+    let sign = fields::sign(word);
+    let biased = fields::biased_exponent(word);
+    let trailing = fields::trailing_significand(word);
+    fields::signed_whole(sign, biased, trailing)
 }
 
 // A power of two, as a number and as a float.
@@ -111,24 +111,24 @@ pub fn float_of_i32(n: i32) -> f32
     }
 }
 
-// x, or a half where x is not above that: a float with the same whole part.
+// x, or a half where x is not above that: a float with the same unsigned whole part.
 fn at_least_half(x: f32) -> f32
     ensures { λ r. ⌜ r ≡ cond (lt half x) x half ⌝ }
 {
     if x > 0.5 { x } else { 0.5 }
 }
 
-// x between a half and `t`, which is `top` and a half: a float with the whole part of x held at `top`.
-fn held_between(x: f32, top: usize, t: f32) -> f32
-    requires { ⌜ (top ≤ 8388607) × (t ≡ ofCount top ⊕ half) ⌝ }
+// x between a half and `bound`, which is `top` and a half: a float whose whole part is that of x, held at `top`.
+fn held_between(x: f32, top: usize, bound: f32) -> f32
+    requires { ⌜ (top ≤ 8388607) × (bound ≡ ofCount top ⊕ half) ⌝ }
     ensures { λ r. ⌜ toUnsigned 64 r ≡ min (toUnsigned 64 x) top ⌝ }
     ensures { λ r. ⌜ Small r ⌝ }
 {
     let y = at_least_half(x);
-    if y < t { y } else { t }
+    if y < bound { y } else { bound }
 }
 
-// A whole number up to 2 to the power 24 as a float, which is exact.
+// A whole number up to 2 to the power 24 as a float, which is exact. The processor has one instruction for it from an i32.
 fn float_of_small(n: u32) -> f32
     requires { ⌜ n ≤ 16777216 ⌝ }
     ensures { λ r. ⌜ r ≡ ofCount n ⌝ }
@@ -136,7 +136,7 @@ fn float_of_small(n: u32) -> f32
     (n as i32) as f32
 }
 
-// The whole part of a float, as a float.
+// The whole part of a float, as a float. Below 2 to the power 23 by `small_whole`, for speed.
 pub fn whole_float(x: f32) -> f32
     ensures { λ r. ⌜ r ≡ wholeFloat x ⌝ }
 {
@@ -180,12 +180,12 @@ pub struct Part {
     pub held: bool,
 }
 
-// A position whose whole part is held at a `top` below 2 to the power 23; `t` is `top` and a half, and `above` the number after `top`.
-fn near_part(x: f32, top: usize, t: f32, above: f32) -> Part
-    requires { ⌜ (top < 8388607) × ((t ≡ ofCount top ⊕ half) × (above ≡ ofCount (top + 1))) ⌝ }
+// A position whose whole part is held at a `top` below 8388607, by `small_whole`, for speed; `bound` is `top` and a half, and `above` the number after `top`.
+fn near_part(x: f32, top: usize, bound: f32, above: f32) -> Part
+    requires { ⌜ (top < 8388607) × ((bound ≡ ofCount top ⊕ half) × (above ≡ ofCount (top + 1))) ⌝ }
     ensures { λ r. ⌜ r ≡ partOf top x ⌝ }
 {
-    let n = fields::small_whole(held_between(x, top, t));
+    let n = fields::small_whole(held_between(x, top, bound));
     Part {
         whole: n as usize,
         fraction: x - float_of_small(n),

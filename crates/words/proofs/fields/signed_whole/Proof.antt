@@ -31,8 +31,8 @@ sub-result c =
     let m = few _ _ _ (c .before .whole-magnitude .ensures) (c .before .before .before .pre) (c .before .before .if1 .taken) in
     rw (toZ-pos w32 m, +ℤ-idl) (neg-mag _ m)
 
-is-nan-requires : tie.Need-is-nan-requires
-is-nan-requires c κs = search needs
+not-a-number-requires : tie.Need-not-a-number-requires
+not-a-number-requires c κs = search needs
 
 returns : tie.Need-returns
 unfolding signedWhole
@@ -50,15 +50,15 @@ returns-2 c =
 
 returns-3 : tie.Need-returns-3
 unfolding signedWhole
-returns-3 c = simp (sym (c .before .is-nan .ensures) ∙ c .if3 .taken)
+returns-3 c = simp (sym (c .before .not-a-number .ensures) ∙ c .if3 .taken)
 
 returns-4 : tie.Need-returns-4
 unfolding signedWhole
-returns-4 c = simp (sym (c .before .before .is-nan .ensures) ∙ c .before .if3 .left, le-ltb _ _ (c .before .before .before .if1 .left), eq-eqb _ _ (c .if4 .taken))
+returns-4 c = simp (sym (c .before .before .not-a-number .ensures) ∙ c .before .if3 .left, le-ltb _ _ (c .before .before .before .if1 .left), eq-eqb _ _ (c .if4 .taken))
 
 returns-5 : tie.Need-returns-5
 unfolding signedWhole
-returns-5 c = simp (sym (c .before .before .is-nan .ensures) ∙ c .before .if3 .left, le-ltb _ _ (c .before .before .before .if1 .left), ne-eqb _ _ (c .if4 .left))
+returns-5 c = simp (sym (c .before .before .not-a-number .ensures) ∙ c .before .if3 .left, le-ltb _ _ (c .before .before .before .if1 .left), ne-eqb _ _ (c .if4 .left))
 
 pub signed-whole-spec : {M : Type 1} → statement M
 signed-whole-spec =
@@ -68,7 +68,7 @@ signed-whole-spec =
     whole-magnitude-requires
     cast-n
     sub-result
-    is-nan-requires
+    not-a-number-requires
     returns
     returns-2
     returns-3

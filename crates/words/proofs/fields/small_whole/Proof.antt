@@ -15,8 +15,8 @@ no-nan-small : (y : Float) → Small y → T (not (isNan y))
 unfolding isNan
 no-nan-small y s = subst (λ (x : Float). T (not (isNan x))) (sym (s .is)) tt
 
-float-to-bits-w : tie.Need-float-to-bits-w
-float-to-bits-w c = no-nan-small _ (c .pre)
+float-to-bits-word : tie.Need-float-to-bits-word
+float-to-bits-word c = no-nan-small _ (c .pre)
 
 trailing-significand-requires : tie.Need-trailing-significand-requires
 trailing-significand-requires c κs = search needs
@@ -43,7 +43,7 @@ pub small-whole-spec : {M : Type 1} → statement M
 small-whole-spec =
     tie.close
     (tie.spec
-    float-to-bits-w
+    float-to-bits-word
     trailing-significand-requires
     significand-requires
     sub-result

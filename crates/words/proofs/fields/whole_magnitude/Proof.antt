@@ -41,7 +41,7 @@ returns-3 : tie.Need-returns-3
 unfolding wholeMagnitude
 returns-3 c =
     let a = c .before .before .before .args in
-    rw (le-ltb _ _ (c .before .if1 .left), lt-leb _ _ (c .if2 .left), c .before .before .significand .ensures) (shl-exact {a = 8388608 + a .t} 24 (a .e - 150) 64 (omega arith) (omega arith))
+    rw (le-ltb _ _ (c .before .if1 .left), lt-leb _ _ (c .if2 .left), c .before .before .significand .ensures) (shl-exact {a = 8388608 + a .trailing} 24 (a .biased - 150) 64 (omega arith) (omega arith))
 
 pub whole-magnitude-spec : {M : Type 1} → statement M
 whole-magnitude-spec =
