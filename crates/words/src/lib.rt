@@ -180,6 +180,18 @@ pub struct Part {
     pub held: bool,
 }
 
+// A number up to `top` as an index. A remainder that changes nothing tells the compiler that it has 15 bits, where `top` has; it then multiplies four such numbers at once.
+fn index_up_to(n: u32, top: usize) -> usize
+    requires { ⌜ n ≤ top ⌝ }
+    ensures { λ r. ⌜ r ≡ n ⌝ }
+{
+    if top < 32768 {
+        (n % 32768) as usize
+    } else {
+        n as usize
+    }
+}
+
 // A position whose whole part is held at a `top` below 8388607, by `small_whole`, for speed; `bound` is `top` and a half, and `above` the number after `top`.
 fn near_part(x: f32, top: usize, bound: f32, above: f32) -> Part
     requires { ⌜ (top < 8388607) × ((bound ≡ ofCount top ⊕ half) × (above ≡ ofCount (top + 1))) ⌝ }
@@ -187,7 +199,7 @@ fn near_part(x: f32, top: usize, bound: f32, above: f32) -> Part
 {
     let n = fields::small_whole(held_between(x, top, bound));
     Part {
-        whole: n as usize,
+        whole: index_up_to(n, top),
         fraction: x - float_of_small(n),
         held: x >= above,
     }
