@@ -32,12 +32,14 @@ value s zero t h = odd-sign 24 s t 0 149
 value s (suc e) t h = rw (not-special (suc e) 255 h (lit≤ tt)) (odd-sign 24 s (8388608 + t) e 149)
 
 -- ---- how large it is
-units-below : (h e t : ℕ) → t < 8388608 → e < 127 + h → units e t / 2 ^ 149 < 2 ^ h
-units-below h zero t k l =
-    div-lt-iff-lt-mul (pow-pos 149) .1 (subst (λ (x : ℕ). t * 2 ^ 0 < x) (pow-add 2 h 149) (lt-of-lt-of-le (shl-lt 23 0 k) (pow-mono {i = 23 + 0} {j = h + 149} (omega arith))))
-units-below h (suc e) t k l =
+pub units-few : (j e t : ℕ) → t < 8388608 → 23 + e ≤ j → units e t < 2 ^ j
+units-few j zero t k l = lt-of-lt-of-le (shl-lt 23 0 k) (pow-mono l)
+units-few j (suc e) t k l =
     let q : 8388608 + t < 2 ^ 24 = omega arith in
-    div-lt-iff-lt-mul (pow-pos 149) .1 (subst (λ (x : ℕ). (8388608 + t) * 2 ^ e < x) (pow-add 2 h 149) (lt-of-lt-of-le (shl-lt 24 e q) (pow-mono {i = 24 + e} {j = h + 149} (omega arith))))
+    lt-of-lt-of-le (shl-lt 24 e q) (pow-mono {i = 24 + e} {j = j} (omega arith))
+
+units-below : (h e t : ℕ) → t < 8388608 → e < 127 + h → units e t / 2 ^ 149 < 2 ^ h
+units-below h e t k l = div-lt-iff-lt-mul (pow-pos 149) .1 (subst (λ (x : ℕ). units e t < x) (pow-add 2 h 149) (units-few (h + 149) e t k (omega arith)))
 
 pub units-above : (h e t : ℕ) → 127 + h ≤ e → 2 ^ h ≤ units e t / 2 ^ 149
 units-above h zero t l = absurd (omega arith)

@@ -78,7 +78,6 @@ inside nan t top m v h l = absurd h
 inside (inf s) t top m v h l = absurd (true≢false (sym l ∙ ap (λ (b : Bool). lt (inf b) t) h ∙ inf-not-below t (top * 2 + 1) 2 v))
 inside (fin true n e) t top m v h l = absurd (true≢false (h .0))
 inside (fin false n e) t top m v h l =
-    let d = down e in
     let a : n * up e * 2 < (top * 2 + 1) * down e = values-below (fin false n e) t (n * up e) (down e) (top * 2 + 1) 2 (down-pos e) (lit< tt) (own n e) v l in
     let o : (top * 2 + 1) * down e ≡ top * down e * 2 + down e = odds top (down e) in
     let k : top * down e ≤ 8388607 * down e = mul-le-mul-right (down e) m in

@@ -2,12 +2,12 @@
 use mathlib.Core.Path.{_≡_, refl, sym, ap, _∙_, subst}
 use mathlib.Core.Bool.{Bool, true, false, cond}
 use Prim.Native.Nat.{ℕ, zero, suc, _+_, _-_, _*_, _/_, _%_, _^_, _≤_, _<_, min}
-use native.Mathlib.Nat.{le-of-suc-le-suc, eq-of-mul-eq-mul-right, mul-comm, mul-right-comm, mul-lt-mul-of-pos-right, pow-suc, lt-of-not-le, not-le-of-lt, le-of-mul-le-mul-right, lt-of-mul-lt-mul-right}
+use native.Mathlib.Nat.{le-of-suc-le-suc, eq-of-mul-eq-mul-right, mul-comm, mul-right-comm, mul-lt-mul-of-pos-right, lt-of-not-le, not-le-of-lt, le-of-mul-le-mul-right, lt-of-mul-lt-mul-right}
 use native.Mathlib.Nat.{le-trans, le-of-eq, le-of-lt, lt-of-lt-of-le, mul-le-mul-right, div-lt-iff-lt-mul, min-eq-left, mod-lt}
 use native.Mathlib.Omega.{arith}
 use borrow.Author.Tests.{ltb-true, ltb-false, leb-false}
 use lib.Dec.{T, leb, ltb, eqb, lit<, lit≤}
-use lib.Pow.{pow-pos, pow-mono, shl-lt}
+use lib.Pow.{pow-pos}
 use lib.Ieee.{Float, nan, inf, fin, binary32, up, down, fits, ofFields, ofBits, toBits, toUnsigned}
 use lib.Ieee.Bits.{ofBits-toBits}
 use lib.Ieee.Fits.{down-pos}
@@ -15,7 +15,7 @@ use lib.Ieee.Exact.{HasValue}
 use Rattle.words.specs.Inner.{Small}
 use Rattle.words.proofs.Values.{own}
 use Rattle.words.proofs.WholeParts.{whole-at}
-use Rattle.words.proofs.ByFields.{units, value, units-above, right}
+use Rattle.words.proofs.ByFields.{units, value, units-few, units-above, right}
 
 -- two values of one float
 same-value : (x : Float) (s b : Bool) (a c n d : ℕ) → HasValue x s a c → HasValue x b n d → (s ≡ b) × (a * d ≡ n * c)
@@ -31,15 +31,9 @@ same-value (fin t m e) s b a c n d v w = (
       ∙ mul-right-comm n (down e) c),
 )
 
--- below a half, E is below 126
-twice-below : (a j : ℕ) → a < 2 ^ j → j < 149 → a * 2 < 2 ^ 149
-twice-below a j h l = lt-of-lt-of-le (mul-lt-mul-of-pos-right h (lit< tt)) (le-trans (le-of-eq (sym (pow-suc 2 j))) (pow-mono l))
-
+-- where E is below 126, it is below a half
 below-half : (e t : ℕ) → t < 8388608 → e < 126 → units e t * 2 < 2 ^ 149
-below-half zero t k l = twice-below (t * 2 ^ 0) (23 + 0) (shl-lt 23 0 k) (lit< tt)
-below-half (suc e) t k l =
-    let q : 8388608 + t < 2 ^ 24 = omega arith in
-    twice-below ((8388608 + t) * 2 ^ e) (24 + e) (shl-lt 24 e q) (omega arith)
+below-half e t k l = mul-lt-mul-of-pos-right (units-few 148 e t k (omega arith)) (lit< tt)
 
 -- an infinity or a NaN has no value
 no-value : (s z b : Bool) (a c : ℕ) → HasValue (cond z (inf s) nan) b a c → ⊥
