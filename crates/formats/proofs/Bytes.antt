@@ -13,52 +13,20 @@ use lib.IntN.{ℤ, pos, negsuc, _-ℤ_}
 use mir.Syntax.{w16}
 use mir.Val.{SFits, toZ, ofZ}
 use mir.Facts.{toZ-pos, toZ-ofZ}
-use lib.ListN.{length, getD, take, drop, set, length-append, length-drop, length-set, drop-of-length-le, take-append-drop}
-use lib.Seq.{drop-cons, take-at, take-all, take-suc-set, append-snoc, set-at, length-take-le, drop-drop}
+use lib.ListN.{length, getD, take, drop, set, length-append, length-set, drop-of-length-le, take-append-drop}
+use lib.Seq.{drop-cons, take-all, take-suc-set, append-snoc, set-at, length-take-le, drop-drop}
 use Rattle.lists.specs.Lists.{put}
 use Rattle.formats.specs.Formats.{Written, digits, digit, bytesOf, lowFirst, i16Of, samplesOf}
 
--- four bytes in the place of four
-pub four : (l : List ℕ) (a b c d : ℕ) → length l ≡ 4 → set (set (set (set l 0 a) 1 b) 2 c) 3 d ≡ a ∷ b ∷ c ∷ d ∷ []
-four [] a b c d h = absurd (omega arith)
-four (w ∷ []) a b c d h = absurd (omega arith)
-four (w ∷ x ∷ []) a b c d h = absurd (omega arith)
-four (w ∷ x ∷ y ∷ []) a b c d h = absurd (omega arith)
-four (w ∷ x ∷ y ∷ z ∷ []) a b c d h = refl
-four (w ∷ x ∷ y ∷ z ∷ v ∷ l) a b c d h = absurd (omega arith)
-
 -- ---- words
-pub record WordsLeft (words bytes : List ℕ) (n i : ℕ) : Type 0 where
-  pub at : i ≤ length words
-  pub long : length bytes ≡ n
-  pub left : take (i * 4) bytes ++ lowFirst (drop i words) ≡ lowFirst words
+module _ (words : List ℕ) where
+  pub word-more : (i : ℕ) → i < length words → lowFirst (drop i words) ≡ bytesOf (getD words i 0) ++ lowFirst (drop (i + 1) words)
+  unfolding lowFirst
+  word-more i h = rw (drop-cons words i 0 h, add-one)
 
-pub words-begin : (words bytes : List ℕ) → WordsLeft words bytes (length bytes) 0
-words-begin words bytes = record { at = zero-le; long = refl; left = refl }
-
-pub words-go-on : (words bytes : List ℕ) (n i : ℕ) → n ≡ length words * 4 → i < length words → WordsLeft words bytes n i
-    → WordsLeft words (take (i * 4) bytes ++ (bytesOf (getD words i 0) ++ drop 4 (drop (i * 4) bytes))) n (i + 1)
-unfolding lowFirst
-words-go-on words bytes n i e l p =
-    let k : length (take (i * 4) bytes) ≡ i * 4 = length-take-le (i * 4) bytes (omega (arith, p .long)) in
-    let w = bytesOf (getD words i 0) in
-    let new = take (i * 4) bytes ++ (w ++ drop 4 (drop (i * 4) bytes)) in
-    let m : length (take (i * 4) bytes ++ w) ≡ (i + 1) * 4 = rw (length-append) (omega arith) in
-    let rest = drop 4 (drop (i * 4) bytes) in
-    let t : take ((i + 1) * 4) new ≡ take (i * 4) bytes ++ w =
-    rw (sym (append-assoc (take (i * 4) bytes) w rest)) (take-at (take (i * 4) bytes ++ w) rest ((i + 1) * 4) m) in
-    record {
-      at = omega arith;
-      long = rw (length-append, length-append, length-drop, length-drop) (omega (arith, p .long));
-      left = rw (t, add-one, append-assoc) (rw (drop-cons words i 0 l) at (p .left));
-    }
-
-pub words-end : (words bytes : List ℕ) (n i : ℕ) → n ≡ length words * 4 → length words ≤ i → WordsLeft words bytes n i → bytes ≡ lowFirst words
-unfolding lowFirst
-words-end words bytes n i e l p =
-    let d : drop i words ≡ [] = drop-of-length-le words l in
-    let t : take (i * 4) bytes ≡ bytes = take-all (i * 4) bytes (omega (arith, p .long)) in
-    sym (append-nil bytes) ∙ (rw (d, t) at (p .left))
+  pub words-none : lowFirst (drop (length words) words) ≡ []
+  unfolding lowFirst
+  words-none = ap lowFirst (drop-of-length-le words {i = length words} (omega arith))
 
 -- ---- samples
 pub record SamplesLeft (bytes : List ℕ) (samples : List ℤ) (n i : ℕ) : Type 0 where

@@ -4,3 +4,4 @@ pub mod Copying
 pub mod Places
 pub mod Moving
 pub mod Shifts
+pub mod Filling

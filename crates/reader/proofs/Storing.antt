@@ -15,11 +15,10 @@ use Rattle.reader.specs.declared.ReadAnswer.the-variants.{Read}
 use Rattle.names.specs.declared.Source.{Source}
 use Rattle.text.specs.Text.{Line, linesOf, restOf}
 use Rattle.values.specs.Lines.{holdsWords, rowOf, rowsOf, lineNumber}
-use Rattle.values.specs.Inner.{lineAt}
+use Rattle.values.specs.Inner.{fieldBytes, lineAt}
 use Rattle.reader.specs.Reading.{refusedAt, testLines}
 use Rattle.lists.proofs.Cases.{le-or-lt}
 use Rattle.text.proofs.FirstLine.{some-line}
-use Rattle.values.proofs.Fields.{fieldBytes}
 use Rattle.values.proofs.Values.{value, next-line, line-fits}
 use Rattle.reader.proofs.Testing.{tested-from, number-at, first-tested, none-left, line-passes}
 

@@ -11,12 +11,11 @@ use lib.ListN.{length, drop, length-drop, drop-of-length-le}
 use Rattle.text.specs.Text.{linesOf, restOf}
 use Rattle.names.specs.declared.Source.{Source}
 use Rattle.values.specs.Lines.{lineNumber}
-use Rattle.values.specs.Inner.{lineAt}
+use Rattle.values.specs.Inner.{fieldBytes, lineAt}
 use Rattle.reader.specs.declared.ReadAnswer.{ReadAnswer}
 use Rattle.reader.specs.declared.ReadAnswer.the-variants.{Read}
 use Rattle.reader.specs.Reading.{refusedAt, testLines}
 use Rattle.text.proofs.FirstLine.{some-line, no-line}
-use Rattle.values.proofs.Fields.{fieldBytes}
 use Rattle.values.proofs.Values.{next-line}
 
 module _ (n : ℕ) (sources : List Source) (score : Bool) (text : List ℕ) where

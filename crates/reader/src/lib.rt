@@ -38,6 +38,9 @@ pub enum ReadAnswer {
     Refused(Refusal),
 }
 
+// The names of a score's text, in row order with one space between: what reading goes by, and what writing writes.
+pub const SCORE_NAMES: [u8; 35] = *b"note timbre morph harmonics restart";
+
 // An edit's words: its row, then a row's.
 pub const EDIT_WORDS: usize = ROW_WORDS + 1;
 
@@ -180,13 +183,7 @@ pub fn read(text: &[u8], rows: &mut [u32]) -> ReadAnswer
     ensures { λ r. ⌜ outcome r (now (rows .exit)) ≡ readOf (now (text .entry)) (now (rows .entry)) ⌝ }
 {
     let absent = [Source::Missing; MOST_NAMES];
-    read_text(
-        text,
-        b"note timbre morph harmonics restart",
-        absent,
-        true,
-        rows,
-    )
+    read_text(text, &SCORE_NAMES, absent, true, rows)
 }
 
 // Reads edits: six words each, the row first, then the five in row order. No limit is tested.

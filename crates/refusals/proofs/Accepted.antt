@@ -2,7 +2,7 @@
 -- accepted call.
 use mathlib.Core.Path.{_≡_, refl, sym}
 use mathlib.Core.List.{List}
-use mathlib.Core.Bool.{Bool, true, false, cond, not, _||_, true≢false}
+use mathlib.Core.Bool.{Bool, true, false, cond, not, true≢false}
 use mathlib.Core.Logic.{_⊎_, inl, inr}
 use Prim.Native.Nat.{ℕ, zero, suc, _+_, _*_, _≤_, _<_}
 use native.Mathlib.Omega.{arith}
@@ -14,7 +14,9 @@ use Rattle.oscillator.specs.Bank.{bankLength}
 use Rattle.terrain.specs.Heights.{mapLength}
 use Rattle.voice.specs.Voice.{Lent, mapInstrument, keptCount}
 use Rattle.score.specs.declared.refusal.Refusal.{Refusal}
-use Rattle.score.specs.Rows.{rowWords}
+use Rattle.score.specs.Rows.{rowWords, wrongRows}
+use Rattle.lists.proofs.Cases.{neither}
+use Rattle.score.proofs.RowsRight.{rows-right}
 use Rattle.score.specs.Limits.{limitRefusal}
 use Rattle.score.specs.Numbers.{refusal, positionNumber, fullNumber}
 use Rattle.rows.specs.Rows.{Setup, Take}
@@ -26,7 +28,6 @@ use Rattle.refusals.specs.Refusals.{
   wrongBlock,
   wrongBank,
   wrongMap,
-  wrongRows,
   shortTake,
   wrongPosition,
   noSpare,
@@ -43,10 +44,6 @@ use Rattle.refusals.specs.Refusals.{
 passed : (b : Bool) (n x : ℕ) → cond b (suc n) x ≡ 0 → (b ≡ false) × (x ≡ 0)
 passed true n x e = absurd (omega arith)
 passed false n x e = (refl, e)
-
-neither : (a b : Bool) → a || b ≡ false → (a ≡ false) × (b ≡ false)
-neither true b e = absurd (true≢false e)
-neither false b e = (refl, e)
 
 not-not : (b : Bool) → not b ≡ false → b ≡ true
 not-not true e = refl
@@ -99,13 +96,12 @@ lengths-right : (least largest frames n rows out aux kept : ℕ) → lengthsNumb
 unfolding lengthsNumber
 lengths-right least largest frames n rows out aux kept e =
     let a = passed (wrongRows least largest n rows) 5 _ e in
-    let c = neither _ _ (a .0) in
-    let d = neither _ _ (c .1) in
     let b = passed (shortTake n frames out aux kept) 6 _ (a .1) in
+    let r = rows-right least largest n rows (a .0) in
     record {
-      count-least = ltb-false n least (c .0);
-      count-most = ltb-false largest n (d .0);
-      rows-room = ltb-false rows (n * rowWords) (d .1);
+      count-least = r .count-least;
+      count-most = r .count-most;
+      rows-room = r .rows-room;
       take-room = take-right n frames out aux kept (b .0);
     }
 

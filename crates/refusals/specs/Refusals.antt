@@ -8,7 +8,7 @@ use Rattle.utils.specs.Rendered.{mostFrames}
 use Rattle.oscillator.specs.Bank.{bankLength}
 use Rattle.terrain.specs.Heights.{mapLength}
 use Rattle.voice.specs.Voice.{mapInstrument, oscillatorInstrument, keptCount}
-use Rattle.score.specs.Rows.{rowWords}
+use Rattle.score.specs.Rows.{rowWords, wrongRows}
 use Rattle.score.specs.Limits.{limitRefusal}
 use Rattle.score.specs.Numbers.{instrumentNumber, rateNumber, blockNumber, bankNumber, mapNumber, rowsNumber, takeNumber, positionNumber, fullNumber, refusal}
 use Rattle.score.specs.declared.refusal.Refusal.{Refusal}
@@ -43,10 +43,6 @@ mapLengthOf instrument = cond (eqb instrument mapInstrument) mapLength 0
 
 abbrev pub wrongMap : ℕ → ℕ → Bool
 wrongMap instrument map = not (eqb map (mapLengthOf instrument))
-
--- 6: "a count of 0 or above 4,096 or, outside the reader, fewer row words than 5 times it", where a call takes counts from `least` to `largest`
-abbrev pub wrongRows : ℕ → ℕ → ℕ → ℕ → Bool
-wrongRows least largest n rows = ltb n least || (ltb largest n || ltb rows (n * rowWords))
 
 -- 7: "now means too short instead of unequal": "out or aux not rows times frames, or kept not 13 times rows"
 abbrev pub shortTake : ℕ → ℕ → ℕ → ℕ → ℕ → Bool

@@ -21,6 +21,7 @@ use score::refusal::Refusal;
 use score::refusal::TAKE;
 use score::rows::MOST_ROWS;
 use score::rows::ROW_WORDS;
+use score::rows::wrong_rows;
 use terrain::MAP_LENGTH;
 use utils::engine::MOST_FRAMES;
 use voice::KEPT_WORDS;
@@ -99,13 +100,7 @@ fn lengths_number(
     requires { ⌜ (largest ≤ mostRows) × (frames ≤ mostFrames) ⌝ }
     ensures { λ r. ⌜ r ≡ lengthsNumber least largest frames count rows out aux kept ⌝ }
 {
-    if count < least {
-        return ROWS;
-    }
-    if count > largest {
-        return ROWS;
-    }
-    if rows < count * ROW_WORDS {
+    if wrong_rows(least, largest, count, rows) {
         return ROWS;
     }
     let short = short_take(count, frames, out, aux, kept);

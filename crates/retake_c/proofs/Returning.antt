@@ -2,16 +2,14 @@
 use mathlib.Core.Path.{_≡_, ap, _∙_}
 use mathlib.Core.List.{List}
 use Prim.Native.Nat.{ℕ}
-use Rattle.reader.specs.declared.ReadAnswer.{ReadAnswer}
-use Rattle.reader.specs.Reading as reading
+use Rattle.score.specs.Numbers.{Result}
 use Rattle.rows.specs.Rows.{Take}
 use Rattle.take.specs.declared.Answer.{Answer}
 use Rattle.take.specs.Take.{resultOf, Outcome, outcome}
-use Rattle.retake_c.specs.Calls.{Given, given, givenOf, read, ofReading, called, ofCall}
+use Rattle.retake_c.specs.Calls.{Given, given, givenOf, Filled, filled, called, ofCall}
 
-pub read-returns : (n f s : ℕ) (a : ReadAnswer) (rows : List ℕ) (o : reading.Outcome)
-    → given n f s ≡ givenOf (reading.resultOf a) → reading.outcome a rows ≡ o → read (given n f s) rows ≡ ofReading o
-read-returns n f s a rows o v e = ap (λ (r : Given). read r rows) v ∙ ap (λ (p : reading.Outcome). ofReading p) e
+pub fill-returns : (n f s : ℕ) (r : Result) (lent : List ℕ) (x : Filled) → given n f s ≡ givenOf r → filled (givenOf r) lent ≡ x → filled (given n f s) lent ≡ x
+fill-returns n f s r lent x v e = ap (λ (g : Given). filled g lent) v ∙ e
 
 pub call-returns : (n f s : ℕ) (a : Answer) (rows : List ℕ) (t : Take) (o : Outcome)
     → given n f s ≡ givenOf (resultOf a) → outcome a rows t ≡ o → called (given n f s) rows t ≡ ofCall o

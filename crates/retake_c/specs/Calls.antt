@@ -1,9 +1,10 @@
 -- What the C functions return and leave: the number, what is written to `first` and `second`, and the lent words, by the definitions of
--- reading and of the calls over a score and a take.
+-- reading, of writing and of the calls over a score and a take.
 use Prim.Native.Nat.{ℕ}
 use mathlib.Core.List.{List, [], _∷_}
 use Rattle.score.specs.Numbers.{Result}
 use Rattle.reader.specs.Reading as reading
+use Rattle.writer.specs.Writing as writing
 use Rattle.rows.specs.declared.Settings.{Settings}
 use Rattle.rows.specs.Rows.{Take}
 use Rattle.take.specs.Take.{resultOf, Outcome}
@@ -34,16 +35,19 @@ givenOf r = given (r .number) (firstOf (r .values)) (secondOf (r .values))
 abbrev pub settings : ℕ → ℕ → ℕ → Settings
 settings instrument rate frames = record { instrument = instrument; rate = rate; frames = frames }
 
--- After reading: the result, and the lent row words.
-pub record Read : Type 0 where
+-- After reading or writing a text: the result, and the row words or the bytes that were lent for it.
+pub record Filled : Type 0 where
   pub result : Given
-  pub rows : List ℕ
+  pub lent : List ℕ
 
-abbrev pub read : Given → List ℕ → Read
-read result rows = record { result = result; rows = rows }
+abbrev pub filled : Given → List ℕ → Filled
+filled result lent = record { result = result; lent = lent }
 
-abbrev pub ofReading : reading.Outcome → Read
-ofReading o = read (givenOf (reading.resultOf (o .answer))) (o .rows)
+abbrev pub ofReading : reading.Outcome → Filled
+ofReading o = filled (givenOf (reading.resultOf (o .answer))) (o .rows)
+
+abbrev pub ofWriting : writing.Outcome → Filled
+ofWriting o = filled (givenOf (writing.resultOf (o .answer))) (o .text)
 
 -- After rendering, an edit, an insertion or a removal: the result, the lent row words, and the lent take.
 pub record Called : Type 0 where

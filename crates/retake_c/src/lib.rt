@@ -1,19 +1,22 @@
 // The C functions of the static library, declared in include/retake.h. Each returns 0 or the number of its refusal and writes its values to
-// `first` and `second`: the row count and 0 (reader), the rows rendered and `held` (rendering, edit, insertion, removal), the place and 0 (a
+// `first` and `second`: the row count and 0 (reader), the byte count and 0 (writer), the rows rendered and `held` (rendering, edit, insertion, removal), the place and 0 (a
 // refusal). The score and its take stand at the start of the lent words; `count` says how many rows it has.
 ghost use mathlib.Core.Path.{_≡_};
 ghost use mathlib.Core.List.{_∷_, []};
 ghost use Rattle.score.specs.Numbers.{refused};
 ghost use Rattle.reader.specs.Reading.{readOf};
 ghost use Rattle.reader.specs.Reading as reading;
+ghost use Rattle.writer.specs.Writing.{writeOf};
+ghost use Rattle.writer.specs.Writing as writing;
 ghost use Rattle.rows.specs.Rows.{setup, lent};
 ghost use Rattle.refusals.specs.Calls.{render, edit, insert, remove};
 ghost use Rattle.take.specs.Take.{resultOf, callOf};
-ghost use Rattle.retake_c.specs.Calls.{given, givenOf, settings, read, ofReading, called, ofCall};
+ghost use Rattle.retake_c.specs.Calls.{given, givenOf, settings, filled, ofReading, ofWriting, called, ofCall};
 use reader::ReadAnswer;
 use rows::Settings;
 use score::refusal::Refusal;
 use take::Answer;
+use writer::WriteAnswer;
 
 // The number and the two values of an answer.
 struct Values {
@@ -43,6 +46,19 @@ fn read_values(answer: ReadAnswer) -> Values
             second: 0,
         },
         ReadAnswer::Refused(refusal) => refused_values(refusal),
+    }
+}
+
+fn write_values(answer: WriteAnswer) -> Values
+    ensures { λ r. ⌜ given (r .number) (r .first) (r .second) ≡ givenOf (writing.resultOf answer) ⌝ }
+{
+    match answer {
+        WriteAnswer::Written(bytes) => Values {
+            number: 0,
+            first: bytes as u64,
+            second: 0,
+        },
+        WriteAnswer::Refused(refusal) => refused_values(refusal),
     }
 }
 
@@ -78,11 +94,31 @@ pub extern "C" fn retake_read_score(
     second: &mut u64,
 ) -> u32
     ensures { λ r. ⌜
-        read (given r (now (first .exit)) (now (second .exit))) (now (rows .exit))
+        filled (given r (now (first .exit)) (now (second .exit))) (now (rows .exit))
         ≡ ofReading (readOf (now (text .entry)) (now (rows .entry))) ⌝ }
 {
     let answer = reader::read(text, rows);
     let v = read_values(answer);
+    *first = v.first;
+    *second = v.second;
+    v.number
+}
+
+// Writes row words as a score's text.
+#[no_mangle]
+pub extern "C" fn retake_write_score(
+    rows: &[u32],
+    count: u64,
+    text: &mut [u8],
+    first: &mut u64,
+    second: &mut u64,
+) -> u32
+    ensures { λ r. ⌜
+        filled (given r (now (first .exit)) (now (second .exit))) (now (text .exit))
+        ≡ ofWriting (writeOf count (now (rows .entry)) (now (text .entry))) ⌝ }
+{
+    let answer = writer::write(rows, count as usize, text);
+    let v = write_values(answer);
     *first = v.first;
     *second = v.second;
     v.number

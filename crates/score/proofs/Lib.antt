@@ -2,4 +2,5 @@
 pub mod Order
 pub mod Within
 pub mod RowWords
+pub mod RowsRight
 pub mod FirstBad

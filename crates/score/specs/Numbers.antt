@@ -58,6 +58,10 @@ spaceNumber = 12
 abbrev pub fullNumber : ℕ
 fullNumber = 13
 
+-- "14 paper: lent text shorter than the score needs"
+abbrev pub paperNumber : ℕ
+paperNumber = 14
+
 -- ---- a refusal
 
 -- "Result of a refusal: number and place"

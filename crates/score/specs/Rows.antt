@@ -1,9 +1,9 @@
 -- Document 01, "Rows, states, retakes", and document 02: a score's rows, as words one row after the other.
 use Prim.Native.Nat.{ℕ, _*_}
-use mathlib.Core.Bool.{Bool}
+use mathlib.Core.Bool.{Bool, _||_}
 use mathlib.Core.List.{List, [], _∷_}
 use lib.ListN.{getD}
-use lib.Dec.{eqb}
+use lib.Dec.{eqb, ltb}
 use Rattle.lists.specs.Lists.{part, put, shiftUp, shiftDown}
 
 -- "A row is five words."
@@ -13,6 +13,10 @@ rowWords = 5
 -- 6: "a count of 0 or above 4,096"
 abbrev pub mostRows : ℕ
 mostRows = 4096
+
+-- 6: "a count of 0 or above 4,096 or, outside the reader, fewer row words than 5 times it", where a call takes counts from `least` to `largest`
+abbrev pub wrongRows : ℕ → ℕ → ℕ → ℕ → Bool
+wrongRows least largest n rows = ltb n least || (ltb largest n || ltb rows (n * rowWords))
 
 -- "note, timbre, morph, harmonics, restart"
 pub data Name : Type 0 where

@@ -41,6 +41,9 @@ pub const SPACE: u32 = 12;
 // An insertion with no spare place in some buffer.
 pub const FULL: u32 = 13;
 
+// A lent text that is shorter than the score needs.
+pub const PAPER: u32 = 14;
+
 // The number and the place of a refusal; number 0 where nothing is refused.
 pub struct Refusal {
     pub number: u32,

@@ -7,7 +7,7 @@ ghost use mathlib.Core.Path.{_≡_};
 ghost use Prim.Native.Nat.{_+_, _*_, _≤_, _<_};
 ghost use lib.ListN.{length};
 ghost use Rattle.lists.specs.Lists.{same};
-ghost use Rattle.score.specs.Rows.{rowWords, rowAt, putRow, insertRow, removeRow, restarts};
+ghost use Rattle.score.specs.Rows.{rowWords, mostRows, wrongRows, rowAt, putRow, insertRow, removeRow, restarts};
 
 // A row's words.
 pub const ROW_WORDS: usize = 5;
@@ -25,6 +25,20 @@ pub const MORPH: usize = 2;
 pub const HARMONICS: usize = 3;
 
 pub const RESTART: usize = 4;
+
+// Whether a count is not from `least` to `largest`, or so many row words are too few for it.
+pub fn wrong_rows(least: usize, largest: usize, count: usize, rows: usize) -> bool
+    requires { ⌜ largest ≤ mostRows ⌝ }
+    ensures { λ r. ⌜ r ≡ wrongRows least largest count rows ⌝ }
+{
+    if count < least {
+        return true;
+    }
+    if count > largest {
+        return true;
+    }
+    rows < count * ROW_WORDS
+}
 
 // The words of row k.
 pub fn row_at(rows: &[u32], k: usize) -> [u32; ROW_WORDS]

@@ -13,7 +13,7 @@ use Rattle.text.specs.Text.{between, isDigit, digitOf, eachDigit, wordDi
 use Rattle.lists.proofs.Cases.{both, and-true}
 
 -- ---- a digit
-inside : (low high b : ℕ) → between low high b ≡ true → (low ≤ b) × (b ≤ high)
+pub inside : (low high b : ℕ) → between low high b ≡ true → (low ≤ b) × (b ≤ high)
 inside low high b e = let p = both (leb low b) (leb b high) e in (leb-true low b (p .0), leb-true b high (p .1))
 
 pub digit-value : (b : ℕ) → isDigit b ≡ true → (b % 16 + b / 64 * 9 ≡ digitOf b) × (b % 16 + b / 64 * 9 < 16)
@@ -45,7 +45,7 @@ long-enough zero l e = zero-le
 long-enough (suc n) [] e = absurd (omega arith)
 long-enough (suc n) (x ∷ l) e = suc-le-suc (long-enough n l (omega arith))
 
-each-digit-of : (a b : List ℕ) → eachDigit (a ++ b) ≡ eachDigit a && eachDigit b
+pub each-digit-of : (a b : List ℕ) → eachDigit (a ++ b) ≡ eachDigit a && eachDigit b
 unfolding eachDigit
 each-digit-of [] b = refl
 each-digit-of (x ∷ a) b = go (isDigit x) (each-digit-of a b)
@@ -54,7 +54,7 @@ each-digit-of (x ∷ a) b = go (isDigit x) (each-digit-of a b)
     go true e = e
     go false e = refl
 
-followed : (number : ℕ) (a b : List ℕ) → followedBy number (a ++ b) ≡ followedBy (followedBy number a) b
+pub followed : (number : ℕ) (a b : List ℕ) → followedBy number (a ++ b) ≡ followedBy (followedBy number a) b
 unfolding followedBy
 followed number [] b = refl
 followed number (x ∷ a) b = followed _ a b

@@ -3,3 +3,5 @@ pub mod Split
 pub mod Columns
 pub mod FirstLine
 pub mod Digits
+pub mod Joining
+pub mod LowerDigits

@@ -1,11 +1,11 @@
 -- Document 01, "Score text": lines, fields and words, over the bytes of a text.
-use Prim.Native.Nat.{ℕ, suc, _+_, _-_, _*_}
+use Prim.Native.Nat.{ℕ, zero, suc, _+_, _-_, _*_, _/_, _%_}
 use Prim.Native.Char.{code}
 use Prim.Native.String.{String, [] as end, _∷_ as _then_}
-use mathlib.Core.Bool.{Bool, true, _&&_, _||_, cond}
-use mathlib.Core.List.{List, [], _∷_}
+use mathlib.Core.Bool.{Bool, true, not, _&&_, _||_, cond}
+use mathlib.Core.List.{List, [], _∷_, _++_}
 use lib.ListN.{length}
-use lib.Dec.{leb, eqb}
+use lib.Dec.{leb, ltb, eqb}
 use Rattle.lists.specs.Lists.{same}
 
 -- The bytes of a text of ASCII characters.
@@ -32,6 +32,12 @@ onFirst b (p ∷ ps) = (b ∷ p) ∷ ps
 unfoldable pub split : ℕ → List ℕ → List (List ℕ)
 split at [] = [] ∷ []
 split at (b ∷ bs) = cond (eqb b at) ([] ∷ split at bs) (onFirst b (split at bs))
+
+-- Pieces with the byte `at` between them, as `split` cuts them apart.
+unfoldable pub joined : ℕ → List (List ℕ) → List ℕ
+joined at [] = []
+joined at (p ∷ []) = p
+joined at (p ∷ q ∷ ps) = p ++ at ∷ joined at (q ∷ ps)
 
 -- The fields of a line.
 abbrev pub fieldsOf : List ℕ → List (List ℕ)
@@ -66,6 +72,15 @@ firstOf (line ∷ lines) = line
 abbrev pub restOf : List Line → List Line
 restOf [] = []
 restOf (line ∷ lines) = lines
+
+-- A line of some fields as it is written: "One space between, LF after every line"
+abbrev pub lineOf : List (List ℕ) → List ℕ
+lineOf fields = joined space fields ++ lf ∷ []
+
+-- Lines as they are written, one after the other.
+unfoldable pub textOf : List (List (List ℕ)) → List ℕ
+textOf [] = []
+textOf (fields ∷ lines) = lineOf fields ++ textOf lines
 
 -- ---- names
 
@@ -113,3 +128,21 @@ wordOf field = followedBy 0 field
 unfoldable pub eachWord : List (List ℕ) → Bool
 eachWord [] = true
 eachWord (field ∷ fields) = isWord field && eachWord fields
+
+-- "lower-case digits": the digit of a value
+unfoldable pub lowerDigit : ℕ → ℕ
+lowerDigit value = cond (ltb value 10) (code "0" + value) (code "a" + (value - 10))
+
+-- The last so many digits of a number, the highest first.
+unfoldable pub lowerDigits : ℕ → ℕ → List ℕ
+lowerDigits zero number = []
+lowerDigits (suc count) number = lowerDigits count (number / 16) ++ lowerDigit (number % 16) ∷ []
+
+-- The field that writes a word.
+unfoldable pub fieldOf : ℕ → List ℕ
+fieldOf word = lowerDigits wordDigits word
+
+-- No byte of a text is a capital letter.
+unfoldable pub noCapital : List ℕ → Bool
+noCapital [] = true
+noCapital (b ∷ bs) = not (between (code "A") (code "Z") b) && noCapital bs

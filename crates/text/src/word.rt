@@ -3,7 +3,7 @@ ghost use mathlib.Core.Path.{_≡_};
 ghost use mathlib.Core.Bool.{true};
 ghost use Prim.Native.Nat.{_+_, _≤_, _<_};
 ghost use lib.ListN.{length, take, drop};
-ghost use Rattle.text.specs.Text.{isDigit, digitOf, eachDigit, wordDigits, isWord, wordOf};
+ghost use Rattle.text.specs.Text.{isDigit, digitOf, eachDigit, wordDigits, isWord, wordOf, lowerDigit, lowerDigits, fieldOf};
 
 // A word's digits.
 pub const WORD_DIGITS: usize = 8;
@@ -57,4 +57,36 @@ pub fn word_at(text: &[u8], at: usize) -> u32
     ensures { λ r. ⌜ r ≡ wordOf (take wordDigits (drop at (now (text .entry)))) ⌝ }
 {
     half_word(text, at) * 65536 + half_word(text, at + 4)
+}
+
+// The digit of a value, in lower case.
+fn lower_digit(value: u32) -> u8
+    requires { ⌜ value < 16 ⌝ }
+    ensures { λ r. ⌜ r ≡ lowerDigit value ⌝ }
+{
+    if value < 10 {
+        b'0' + value as u8
+    } else {
+        b'a' + (value - 10) as u8
+    }
+}
+
+// Half a word, in the place of four bytes.
+fn put_half(half: u32, text: &mut [u8])
+    requires { ⌜ (half < 65536) × (length (now text) ≡ 4) ⌝ }
+    ensures { λ _. ⌜ now (text .exit) ≡ lowerDigits 4 half ⌝ }
+{
+    text[0] = lower_digit(half / 4096);
+    text[1] = lower_digit(half / 256 % 16);
+    text[2] = lower_digit(half / 16 % 16);
+    text[3] = lower_digit(half % 16);
+}
+
+// A word, in the place of eight bytes.
+pub fn put_word(word: u32, text: &mut [u8])
+    requires { ⌜ length (now text) ≡ wordDigits ⌝ }
+    ensures { λ _. ⌜ now (text .exit) ≡ fieldOf word ⌝ }
+{
+    put_half(word / 65536, &mut text[0..4]);
+    put_half(word % 65536, &mut text[4..8]);
 }

@@ -12,7 +12,7 @@ use lib.ListN.{length, getD, take, drop, take-append-drop, length-drop}
 use lib.Seq.{drop-cons, take-take, getD-take, length-take-le, drop-drop}
 use Rattle.text.specs.Text.{lf, space, onFirst, split, Line, ended, unended, contents, lined, linesOf, firstOf, restOf, fieldsOf, isDigit, eachDigit, wordDigits, isWord, eachWord}
 use Rattle.values.specs.Lines.{holdsWords}
-use Rattle.values.specs.Inner.{startsWord}
+use Rattle.values.specs.Inner.{fieldBytes, startsWord}
 use Rattle.lists.proofs.Cases.{le-or-lt, both, and-true, and-false}
 use Rattle.text.proofs.Split.{reach, first-piece, reach-fits, reach-at}
 use Rattle.text.proofs.FirstLine.{lined-cut, first-line, open-line}
@@ -223,9 +223,6 @@ last-word text = go (startsWord lf text) (startsWord space text) refl refl
     go false false f g = no-words text g f 0
 
 -- ---- a line that holds words: where each field stands, and where the next line starts
-abbrev pub fieldBytes : ℕ
-fieldBytes = suc wordDigits
-
 pub record Right (count : ℕ) (text : List ℕ) : Type 0 where
   pub fits : count * fieldBytes ≤ length text
   pub rest : restOf (linesOf text) ≡ linesOf (drop (count * fieldBytes) text)

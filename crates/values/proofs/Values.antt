@@ -16,11 +16,11 @@ use Rattle.names.specs.declared.Source.{Source}
 use Rattle.names.specs.declared.Source.the-variants.{Column}
 use Rattle.names.specs.Sources.{eachReadable}
 use Rattle.values.specs.Lines.{holdsWords, wordFrom, rowOf, lineNumber}
-use Rattle.values.specs.Inner.{lineAt, OnLine}
+use Rattle.values.specs.Inner.{fieldBytes, lineAt, OnLine}
 use Rattle.lists.proofs.Cases.{both}
 use Rattle.text.proofs.Digits.{word-fits}
 use Rattle.names.proofs.Names.{readable-at}
-use Rattle.values.proofs.Fields.{fieldBytes, Right, right}
+use Rattle.values.proofs.Fields.{Right, right}
 
 right-line : (count : ℕ) (text : List ℕ) → 0 < count → holdsWords count (firstOf (linesOf text)) ≡ true → Right count text
 right-line zero text h e = absurd (omega arith)

@@ -1,5 +1,5 @@
 -- What the functions over a line of values promise each other, in the terms of `Lines`.
-use Prim.Native.Nat.{ℕ, _≤_, _<_}
+use Prim.Native.Nat.{ℕ, suc, _≤_, _<_}
 use mathlib.Core.Path.{_≡_}
 use mathlib.Core.Bool.{Bool, true, _&&_}
 use mathlib.Core.List.{List}
@@ -11,6 +11,10 @@ use Rattle.names.specs.declared.Shape.{Shape}
 use Rattle.names.specs.Sources.{eachReadable}
 use Rattle.names.specs.Inner.{mostNames, rowSources}
 use Rattle.values.specs.Lines.{holdsWords}
+
+-- A word and the byte after it.
+abbrev pub fieldBytes : ℕ
+fieldBytes = suc wordDigits
 
 -- A text starts with a word and then the byte `after`.
 unfoldable pub startsWord : ℕ → List ℕ → Bool

@@ -1,6 +1,6 @@
 -- `formats::put_word` meets its contract: four bytes in the place of four.
 use borrow.Author.Needs.{needs}
-use Rattle.formats.proofs.Bytes.{four}
+use Rattle.lists.proofs.Filling.{four}
 use Rattle.formats.proofs.put_word.Statement.{statement}
 use Rattle.formats.proofs.put_word.Tie as tie
 

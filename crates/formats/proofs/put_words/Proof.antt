@@ -1,21 +1,23 @@
--- `formats::put_words` meets its contract: the bytes so far, then those of the words that are left, are the whole (WordsLeft).
-use mathlib.Core.Path.{_≡_}
-use native.Mathlib.Omega.{arith}
-use Prim.Native.Nat.{_+_, _*_, _-_}
-use lib.ListN.{length}
+-- `formats::put_words` meets its contract: the bytes so far, then those of the words that are left, are the whole (Filled).
+use mathlib.Core.Path.{sym, ap, _∙_}
+use mathlib.Core.List.{List, _++_}
+use Prim.Native.Nat.{ℕ, _+_, _-_}
+use lib.ListN.{length, drop}
 use borrow.Author.Needs.{needs}
-use Rattle.formats.proofs.Bytes.{WordsLeft, words-begin, words-go-on, words-end}
+use Rattle.formats.specs.Formats.{lowFirst}
+use Rattle.lists.proofs.Filling.{Filled, fill-begins, fill-goes-on, fill-ends}
+use Rattle.formats.proofs.Bytes.{word-more, words-none}
 use Rattle.formats.proofs.put_words.Statement.{statement}
 use Rattle.formats.proofs.put_words.Tie as tie
 
 abbrev Inv-loop : tie.InvT-loop
-Inv-loop words bytes₀ i₀ bytes i = WordsLeft words bytes (length bytes₀) i
+Inv-loop words bytes₀ i₀ bytes i = Filled 4 (length words) (λ k. lowFirst (drop k words)) bytes i
 
 abbrev μ-loop : tie.MeasureT-loop
 μ-loop words bytes₀ i₀ bytes i = length words - i
 
 loop-holds : tie.Need-loop-holds Inv-loop μ-loop
-loop-holds c = words-begin _ _
+loop-holds c = fill-begins _ _ _ _ (c .before .before .pre)
 
 mul-a : tie.Need-mul-a Inv-loop μ-loop
 mul-a c = search needs
@@ -50,14 +52,16 @@ loop-less c = search needs
 loop-again : tie.Need-loop-again Inv-loop μ-loop
 loop-again c =
     let l = c .before .before .before .before .before .before .loop in
-    let k : l .i * 4 + 4 - l .i * 4 ≡ 4 = omega arith in
-    rw (k, c .before .before .put-word .ensures) (words-go-on _ (l .bytes) _ (l .i) (c .before .before .before .before .before .before .before .before .before .pre) (omega arith) (l .inv))
+    let words = c .before .before .before .before .before .before .before .before .before .args .words .now in
+    let put = c .before .before .put-word in
+    fill-goes-on 4 (length words) _ (l .bytes) (l .i) (search needs) (put .last .1 .0) (ap length (put .ensures)) (l .inv)
+    (word-more words (l .i) (search needs) ∙ ap (λ (x : List ℕ). x ++ lowFirst (drop (l .i + 1) words)) (sym (put .ensures)))
 
 same-length : tie.Need-same-length Inv-loop μ-loop
 same-length c = search needs
 
 returns : tie.Need-returns Inv-loop μ-loop
-returns c = words-end _ _ _ _ (c .before .before .before .before .pre) (c .loop-test .left) (c .before .loop .inv)
+returns c = let w = c .before .before .before .before .args .words .now in fill-ends 4 (length w) _ _ _ (c .loop-test .left) (words-none w) (c .before .loop .inv)
 
 pub put-words-spec : {M : Type 1} → statement M
 put-words-spec =

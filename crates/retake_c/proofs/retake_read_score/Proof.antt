@@ -1,6 +1,9 @@
 -- `retake_c::retake_read_score` meets its contract: reading's outcome, its answer written out.
+use mathlib.Core.Path.{ap}
 use borrow.Author.Needs.{needs}
-use Rattle.retake_c.proofs.Returning.{read-returns}
+use Rattle.reader.specs.Reading.{resultOf}
+use Rattle.retake_c.specs.Calls.{ofReading}
+use Rattle.retake_c.proofs.Returning.{fill-returns}
 use Rattle.retake_c.proofs.retake_read_score.Statement.{statement}
 use Rattle.retake_c.proofs.retake_read_score.Tie as tie
 
@@ -16,7 +19,7 @@ same-length c = search needs
 returns : tie.Need-returns
 returns c =
     let read = c .before .before .before .read in
-    read-returns _ _ _ (read .result) _ _ (c .read-values .ensures) (read .ensures)
+    fill-returns _ _ _ (resultOf (read .result)) _ _ (c .read-values .ensures) (ap (λ o. ofReading o) (read .ensures))
 
 pub retake-read-score-spec : {M : Type 1} → statement M
 retake-read-score-spec =

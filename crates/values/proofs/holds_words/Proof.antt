@@ -10,8 +10,8 @@ use lib.ListN.{length, drop, length-drop}
 use lib.Seq.{drop-drop}
 use Rattle.text.specs.Text.{space, linesOf, firstOf}
 use Rattle.values.specs.Lines.{holdsWords}
-use Rattle.values.specs.Inner.{startsWord, lineAt}
-use Rattle.values.proofs.Fields.{fieldBytes, starts-long, words-on, no-space-no-words, last-word}
+use Rattle.values.specs.Inner.{fieldBytes, startsWord, lineAt}
+use Rattle.values.proofs.Fields.{starts-long, words-on, no-space-no-words, last-word}
 use Rattle.values.proofs.holds_words.Statement.{statement}
 use Rattle.values.proofs.holds_words.Tie as tie
 

@@ -1,0 +1,148 @@
+-- The digits that are written: how many they are, that they are read as the number again, and that a word without a capital letter is written as it stood.
+use mathlib.Core.Path.{_≡_, refl, sym, ap, _∙_}
+use mathlib.Core.Logic.{⊎-elim}
+use mathlib.Core.Bool.{Bool, true, false, not, _&&_, _||_, cond, false≢true}
+use mathlib.Core.List.{List, [], _∷_, _++_, append-nil}
+use Prim.Native.Nat.{ℕ, zero, suc, _+_, _-_, _*_, _/_, _%_, _^_, _≤_, _<_}
+use native.Mathlib.Nat.{pow-suc, add-zero, zero-add, add-suc, suc-add}
+use native.Mathlib.Omega.{arith}
+use borrow.Author.Tests.{lt-ltb, le-ltb, le-leb, lt-leb, eqb-true}
+use lib.Dec.{eqb}
+use lib.ListN.{length, length-append}
+use lib.Seq.{append-snoc}
+use Rattle.text.specs.Text.{between, isDigit, digitOf, eachDigit, wordDigits, isWord, followedBy, wordOf, lowerDigit, lowerDigits, fieldOf, noCapital}
+use Rattle.lists.proofs.Cases.{both, le-or-lt}
+use Rattle.text.proofs.Digits.{inside, followed, each-digit-of}
+use Rattle.text.proofs.Joining.{lacks}
+
+-- ---- four digits, and eight
+pub four-lower : (half : ℕ) → half < 65536
+    → lowerDigit (half / 4096) ∷ lowerDigit (half / 256 % 16) ∷ lowerDigit (half / 16 % 16) ∷ lowerDigit (half % 16) ∷ [] ≡ lowerDigits 4 half
+unfolding lowerDigits
+four-lower half h =
+    let a : half / 4096 ≡ half / 16 / 16 / 16 % 16 = omega arith in
+    let b : half / 256 % 16 ≡ half / 16 / 16 % 16 = omega arith in
+    rw (a, b)
+
+-- the last digit of each half and of the whole, and one digit further on
+four-more : (word : ℕ) → lowerDigits 4 (word % 65536) ≡ lowerDigits 4 word
+unfolding lowerDigits
+four-more word =
+    let a : word % 65536 / 16 / 16 / 16 % 16 ≡ word / 16 / 16 / 16 % 16 = omega arith in
+    let b : word % 65536 / 16 / 16 % 16 ≡ word / 16 / 16 % 16 = omega arith in
+    let c : word % 65536 / 16 % 16 ≡ word / 16 % 16 = omega arith in
+    let d : word % 65536 % 16 ≡ word % 16 = omega arith in
+    rw (a, b, c, d)
+
+pub two-halves : (word : ℕ) → lowerDigits 4 (word / 65536) ++ lowerDigits 4 (word % 65536) ≡ fieldOf word
+unfolding fieldOf lowerDigits
+two-halves word =
+    let e : word / 65536 ≡ word / 16 / 16 / 16 / 16 = omega arith in
+    ap (λ (z : List ℕ). lowerDigits 4 (word / 65536) ++ z) (four-more word) ∙ ap (λ (n : ℕ). lowerDigits 4 n ++ lowerDigits 4 word) e
+
+-- ---- a digit
+module _ (value : ℕ) (h : value < 16) where
+  letter : 10 ≤ value → (isDigit (lowerDigit value) ≡ true) × (digitOf (lowerDigit value) ≡ value)
+  unfolding isDigit digitOf lowerDigit
+  letter l =
+      let n = 97 + (value - 10) in
+      let a = lt-leb n 57 (omega arith) in
+      let b = lt-leb n 70 (omega arith) in
+      let c = le-leb 97 n (omega arith) in
+      let d = le-leb n 102 (omega arith) in
+      let f = le-leb 48 n (omega arith) in
+      let g = le-leb 65 n (omega arith) in
+      rw (le-ltb value 10 l, a, b, c, d, f, g) (refl, omega arith)
+
+  numeral : value < 10 → (isDigit (lowerDigit value) ≡ true) × (digitOf (lowerDigit value) ≡ value)
+  unfolding isDigit digitOf lowerDigit
+  numeral l =
+      let n = 48 + value in
+      let a = le-leb n 57 (omega arith) in
+      let f = le-leb 48 n (omega arith) in
+      rw (lt-ltb value 10 l, a, f) (refl, omega arith)
+
+  pub lower-is-digit : (isDigit (lowerDigit value) ≡ true) × (digitOf (lowerDigit value) ≡ value)
+  lower-is-digit = ⊎-elim letter numeral (le-or-lt 10 value)
+
+-- ---- some digits
+lower-long : (count number : ℕ) → length (lowerDigits count number) ≡ count
+unfolding lowerDigits
+lower-long zero number = refl
+lower-long (suc count) number = rw (length-append, lower-long count (number / 16)) (omega arith)
+
+pub field-long : (word : ℕ) → length (fieldOf word) ≡ wordDigits
+unfolding fieldOf
+field-long word = lower-long wordDigits word
+
+lower-each : (count number : ℕ) → eachDigit (lowerDigits count number) ≡ true
+unfolding lowerDigits eachDigit
+lower-each zero number = refl
+lower-each (suc count) number =
+    each-digit-of (lowerDigits count (number / 16)) _
+    ∙ rw (lower-each count (number / 16), lower-is-digit (number % 16) (omega arith) .0)
+
+pub field-is-word : (word : ℕ) → isWord (fieldOf word) ≡ true
+unfolding isWord fieldOf
+field-is-word word = rw (lower-long wordDigits word) (lower-each wordDigits word)
+
+lower-value : (count number : ℕ) → number < 16 ^ count → followedBy 0 (lowerDigits count number) ≡ number
+unfolding lowerDigits followedBy
+lower-value zero number h = omega arith
+lower-value (suc count) number h =
+    let front = lowerDigits count (number / 16) in
+    let l : number / 16 < 16 ^ count = omega (arith, pow-suc 16 count) in
+    followed 0 front (lowerDigit (number % 16) ∷ [])
+    ∙ rw (lower-value count (number / 16) l, lower-is-digit (number % 16) (omega arith) .1) (omega arith)
+
+pub word-of-field : (word : ℕ) → word < 2 ^ 32 → wordOf (fieldOf word) ≡ word
+unfolding wordOf fieldOf
+word-of-field word h = lower-value wordDigits word h
+
+-- ---- bytes that no digit is
+pub digits-lack : (at : ℕ) → isDigit at ≡ false → (bs : List ℕ) → eachDigit bs ≡ true → lacks at bs ≡ true
+unfolding eachDigit
+digits-lack at n [] e = refl
+digits-lack at n (b ∷ bs) e = let d = both _ _ e in go (eqb b at) refl (d .0) (digits-lack at n bs (d .1))
+  where
+    go : (t : Bool) → eqb b at ≡ t → isDigit b ≡ true → lacks at bs ≡ true → not t && lacks at bs ≡ true
+    go true q d l = absurd (false≢true (sym n ∙ ap isDigit (sym (eqb-true b at q)) ∙ d))
+    go false q d l = l
+
+-- ---- a word without a capital letter
+capital : (b : ℕ) → 65 ≤ b → b ≤ 70 → not (between 65 90 b) ≡ true → ⊥
+capital b l h n = false≢true (rw (le-leb 65 b l, le-leb b 90 (omega arith)) at n)
+
+as-it-stood : (b : ℕ) → isDigit b ≡ true → not (between 65 90 b) ≡ true → (lowerDigit (digitOf b) ≡ b) × (digitOf b < 16)
+unfolding isDigit digitOf lowerDigit
+as-it-stood b e n = go (between 48 57 b) (between 65 70 b) (between 97 102 b) (inside 48 57 b) (inside 65 70 b) (inside 97 102 b) e
+  where
+    go : (p q r : Bool) → (p ≡ true → (48 ≤ b) × (b ≤ 57)) → (q ≡ true → (65 ≤ b) × (b ≤ 70)) → (r ≡ true → (97 ≤ b) × (b ≤ 102)) → p || (q || r) ≡ true
+        → (lowerDigit (cond p (b - 48) (cond q (b - 65 + 10) (b - 97 + 10))) ≡ b) × (cond p (b - 48) (cond q (b - 65 + 10) (b - 97 + 10)) < 16)
+    go true q r f g h e = let i = f refl in rw (lt-ltb (b - 48) 10 (omega arith)) (omega arith, omega arith)
+    go false true r f g h e = let i = g refl in absurd (capital b (i .0) (i .1) n)
+    go false false true f g h e = let i = h refl in rw (le-ltb (b - 97 + 10) 10 (omega arith)) (omega arith, omega arith)
+    go false false false f g h e = absurd (false≢true e)
+
+-- digits read behind those of a number
+read-behind : (count number : ℕ) (field : List ℕ) → eachDigit field ≡ true → noCapital field ≡ true
+    → lowerDigits (count + length field) (followedBy number field) ≡ lowerDigits count number ++ field
+unfolding eachDigit noCapital followedBy lowerDigits
+read-behind count number [] e n = rw (add-zero) (sym (append-nil (lowerDigits count number)))
+read-behind count number (b ∷ field) e n =
+    let d = both _ _ e in
+    let l = both _ _ n in
+    let stood = as-it-stood b (d .0) (l .0) in
+    let value = number * 16 + digitOf b in
+    let front : value / 16 ≡ number = omega (arith, stood .1) in
+    let last : value % 16 ≡ digitOf b = omega (arith, stood .1) in
+    ap (λ (k : ℕ). lowerDigits k (followedBy value field)) (add-suc count (length field) ∙ sym (suc-add count (length field)))
+    ∙ read-behind (suc count) value field (d .1) (l .1)
+    ∙ rw (front, last, stood .0) (append-snoc (lowerDigits count number) b field)
+
+pub field-of-word : (field : List ℕ) → isWord field ≡ true → noCapital field ≡ true → fieldOf (wordOf field) ≡ field
+unfolding isWord wordOf fieldOf lowerDigits
+field-of-word field e n =
+    let d = both _ _ e in
+    ap (λ (k : ℕ). lowerDigits k (followedBy 0 field)) (sym (eqb-true (length field) wordDigits (d .0)) ∙ sym (zero-add (length field)))
+    ∙ read-behind 0 0 field (d .1) n
