@@ -12,6 +12,17 @@ unsafe extern "C" {
         second: *mut u64,
     ) -> u32;
 
+    /// Writes row words as a score's text.
+    pub fn retake_write_score(
+        rows: *const u32,
+        rows_len: usize,
+        count: u64,
+        text: *mut u8,
+        text_len: usize,
+        first: *mut u64,
+        second: *mut u64,
+    ) -> u32;
+
     /// Renders a whole score into a take.
     pub fn retake_render(
         instrument: u32,
