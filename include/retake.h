@@ -33,10 +33,10 @@
  *
  * Two ways to call
  *
- * The library has five functions: retake_read_score, retake_render, retake_edit, retake_insert,
- * retake_remove. Below them stand inline functions over structs (settings, score, take, row, report),
- * which call the same five: retake_read_text, retake_render_score, retake_edit_row, retake_insert_row,
- * retake_remove_row. Both may be mixed.
+ * The library has six functions: retake_read_score, retake_write_score, retake_render, retake_edit,
+ * retake_insert, retake_remove. Below them stand inline functions over structs (settings, score, take,
+ * row, report), which call the same six: retake_read_text, retake_write_text, retake_render_score,
+ * retake_edit_row, retake_insert_row, retake_remove_row. Both may be mixed.
  *
  * What is lent
  *
@@ -67,6 +67,7 @@
  *                          success                               refusal
  *                          *first           *second              *first      *second
  *     retake_read_score    row count        0                    place       0
+ *     retake_write_score   byte count       0                    place       0
  *     retake_render        rows rendered    held in these rows   place       0
  *     retake_edit          rows rendered    held in these rows   place       0
  *     retake_insert        rows rendered    held in these rows   place       0
@@ -92,9 +93,10 @@
  *     12 space       reader: lent row words fewer than 5 times the rows       0
  *     13 full        insertion: rows, out, aux or kept has no room for one    0
  *                    row more
+ *     14 paper       writer: lent text shorter than the score needs           0
  *
- * They are tested upward, but 13 after 8 and before 9; the reader tests 10, then line after line 11
- * before 9, then 6, then 12.
+ * They are tested upward, but 13 after 8 and before 9; the writer tests 6, 9 and 14; the reader tests
+ * 10, then line after line 11 before 9, then 6, then 12.
  */
 #ifndef RETAKE_H
 #define RETAKE_H
@@ -116,9 +118,9 @@ extern "C" {
  * a member to the end of a struct or a function in a minor version; anything else moves the major one,
  * or, while that is 0, the minor one. */
 #define RETAKE_VERSION_MAJOR 0
-#define RETAKE_VERSION_MINOR 3
+#define RETAKE_VERSION_MINOR 4
 #define RETAKE_VERSION_PATCH 0
-#define RETAKE_VERSION "0.3.0"
+#define RETAKE_VERSION "0.4.0"
 
 #define RETAKE_ROW_WORDS 5        /* words of a row */
 #define RETAKE_KEPT_WORDS 13      /* words kept after each row */
@@ -131,6 +133,11 @@ extern "C" {
 #define RETAKE_BANK_LENGTH 25344  /* samples of a bank: 192 times 132 */
 #define RETAKE_MAP_EDGE 64        /* rows of a map, and bytes of each */
 #define RETAKE_MAP_LENGTH 4096    /* bytes of a map: 64 times 64 */
+#define RETAKE_NAMES_LENGTH 36    /* bytes of a text's line of names */
+#define RETAKE_LINE_LENGTH 45     /* bytes of each line after it */
+
+/* Bytes of the text of a score of `count` rows, as a size_t. */
+#define RETAKE_TEXT_LENGTH(count) (RETAKE_NAMES_LENGTH + RETAKE_LINE_LENGTH * (size_t)(count))
 
 enum retake_instrument {
     RETAKE_WAVETABLE = 0,
@@ -153,7 +160,8 @@ enum retake_refusal {
     RETAKE_REFUSED_NAMES = 10,
     RETAKE_REFUSED_VALUE = 11,
     RETAKE_REFUSED_SPACE = 12,
-    RETAKE_REFUSED_FULL = 13
+    RETAKE_REFUSED_FULL = 13,
+    RETAKE_REFUSED_PAPER = 14
 };
 
 /* The words of a refusal's number; a text for every number there is. */
@@ -173,6 +181,7 @@ static inline const char *retake_refusal_text(uint32_t number) {
     case RETAKE_REFUSED_VALUE: return "a line is not five words of eight hexadecimal digits";
     case RETAKE_REFUSED_SPACE: return "the lent row words are fewer than the score needs";
     case RETAKE_REFUSED_FULL: return "rows, out, aux or kept has no room for one row more";
+    case RETAKE_REFUSED_PAPER: return "the lent text is shorter than the score needs";
     default: return "a refusal that this header does not know";
     }
 }
@@ -187,6 +196,18 @@ static inline const char *retake_refusal_text(uint32_t number) {
 uint32_t retake_read_score(const uint8_t *text, size_t text_len,
                            uint32_t *rows, size_t rows_len,
                            uint64_t *first, uint64_t *second);
+
+/* Writes a score of `count` rows as its tidy text: a line of the five names in row order, then a line of
+ * five words, eight lower-case hexadecimal digits each, for each row; one space between, LF after every
+ * line, and no NUL behind the last. That is RETAKE_TEXT_LENGTH(count) bytes; bytes past them keep what
+ * they had. Reading the text gives the same words. Two texts that are read and then written become equal
+ * bytes exactly where their rows are equal; a text that was tidy stays as it is.
+ *
+ * Success: *first is the byte count, *second 0. Refusals: 6, 9, 14. */
+uint32_t retake_write_score(const uint32_t *rows, size_t rows_len,
+                            uint64_t count,
+                            uint8_t *text, size_t text_len,
+                            uint64_t *first, uint64_t *second);
 
 /* Renders a score of `count` rows into a take. `bank` is 25,344 samples, 192 waves of 132. `map` is
  * 4,096 bytes, 64 rows of 64, for instrument 2; for the others its length is 0.
@@ -323,17 +344,19 @@ typedef struct retake_row {
 typedef struct retake_report {
     uint32_t refusal; /* an enum retake_refusal; RETAKE_DONE where the call was accepted */
     uint64_t place;   /* of the refusal, else 0 */
-    uint64_t rows;    /* rows rendered; retake_read_text: rows read; 0 on a refusal */
+    uint64_t rows;    /* rows rendered; retake_read_text: rows read; 0 in retake_write_text and on a refusal */
     uint64_t held;    /* how often a position was held in them; 0 on a refusal */
+    uint64_t bytes;   /* retake_write_text: bytes written; 0 in the others and on a refusal */
 } retake_report;
 
-/* The report of what a function returned and wrote. */
+/* The report of what a function returned and wrote; on success `first` counts rows. */
 static inline retake_report retake_report_of(uint32_t number, uint64_t first, uint64_t second) {
     retake_report report;
     report.refusal = number;
     report.place = number == RETAKE_DONE ? 0 : first;
     report.rows = number == RETAKE_DONE ? first : 0;
     report.held = number == RETAKE_DONE ? second : 0;
+    report.bytes = 0;
     return report;
 }
 
@@ -356,6 +379,17 @@ static inline retake_report retake_read_text(retake_score *score, const char *te
     uint32_t number = retake_read_score((const uint8_t *)text, text_len, score->rows, score->rows_len, &first, &second);
     if (number == RETAKE_DONE) score->count = first;
     return retake_report_of(number, first, second);
+}
+
+/* Writes the score as its tidy text into the lent bytes. Refusals: as retake_write_score. */
+static inline retake_report retake_write_text(const retake_score *score, char *text, size_t text_len) {
+    uint64_t first, second;
+    uint32_t number = retake_write_score(score->rows, score->rows_len, score->count, (uint8_t *)text, text_len,
+                                         &first, &second);
+    retake_report report = retake_report_of(number, first, second);
+    report.bytes = report.rows;
+    report.rows = 0;
+    return report;
 }
 
 /* Renders the whole score into the take. Refusals: as retake_render. */
