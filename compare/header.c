@@ -1,5 +1,5 @@
 /* Tries include/retake.h: NULL with length 0, every refusal through the structs, buffers longer than the score needs, rows put in
- * and taken out.
+ * and taken out, texts written.
  * `compare/run crate` builds it as C99, C11 and C++ with the address and undefined behaviour sanitizers. */
 #include <stdio.h>
 #include <stdlib.h>
@@ -20,13 +20,21 @@ static int16_t bank[RETAKE_BANK_LENGTH + 1];
 static uint8_t map[RETAKE_MAP_LENGTH];
 static uint32_t rows[ROOM * RETAKE_ROW_WORDS], out[SAMPLES], aux[SAMPLES], kept[ROOM * RETAKE_KEPT_WORDS];
 static uint32_t fresh_out[SAMPLES], fresh_aux[SAMPLES], fresh_kept[ROOM * RETAKE_KEPT_WORDS];
-static uint32_t many[RETAKE_MOST_ROWS * RETAKE_ROW_WORDS];
+static uint32_t many[(RETAKE_MOST_ROWS + 1) * RETAKE_ROW_WORDS];
+static char written[RETAKE_TEXT_LENGTH(RETAKE_MOST_ROWS) + 1];
 
 static const char text[] =
     "note timbre morph harmonics restart\n"
     "42700000 00000000 00000000 00000000 00000001\n"
     "42700000 3f000000 00000000 00000000 00000000\n"
     "42700000 3f000000 00000000 00000000 00000000\n";
+
+/* The same rows: other columns, and other letters. */
+static const char shuffled[] =
+    "restart timbre harmonics note morph\n"
+    "00000001 00000000 00000000 42700000 00000000\n"
+    "00000000 3F000000 00000000 42700000 00000000\n"
+    "00000000 3F000000 00000000 42700000 00000000\n";
 
 static void fill(uint32_t *words, size_t length) {
     size_t i;
@@ -42,11 +50,11 @@ static int filled(const uint32_t *words, size_t from, size_t to) {
 }
 
 static int refused(retake_report report, uint32_t number, uint64_t place) {
-    return report.refusal == number && report.place == place && report.rows == 0 && report.held == 0;
+    return report.refusal == number && report.place == place && report.rows == 0 && report.held == 0 && report.bytes == 0;
 }
 
 static int done(retake_report report, uint64_t rendered) {
-    return report.refusal == RETAKE_DONE && report.place == 0 && report.rows == rendered;
+    return report.refusal == RETAKE_DONE && report.place == 0 && report.rows == rendered && report.bytes == 0;
 }
 
 static retake_settings settings_of(uint32_t instrument) {
@@ -82,6 +90,9 @@ static void nulls(void) {
     CHECK(retake_read_score(NULL, 0, rows, 25, &first, &second) == RETAKE_REFUSED_NAMES && first == 0 && second == 0);
     CHECK(retake_read_score((const uint8_t *)text, sizeof text - 1, NULL, 0, &first, &second) == RETAKE_REFUSED_SPACE);
     CHECK(retake_read_score((const uint8_t *)text, sizeof text - 1, rows, 25, &first, &second) == RETAKE_DONE && first == 3);
+    CHECK(retake_write_score(NULL, 0, 3, (uint8_t *)written, 171, &first, &second) == RETAKE_REFUSED_ROWS && first == 0 && second == 0);
+    CHECK(retake_write_score(rows, 15, 3, NULL, 0, &first, &second) == RETAKE_REFUSED_PAPER && first == 0 && second == 0);
+    CHECK(retake_write_score(rows, 15, 3, (uint8_t *)written, 171, &first, &second) == RETAKE_DONE && first == 171 && second == 0);
     CHECK(retake_render(0, 48000, 4, NULL, 0, NULL, 0, rows, 15, 3, out, 12, aux, 12, kept, 39, &first, &second) == RETAKE_REFUSED_BANK);
     CHECK(retake_render(2, 48000, 4, bank, 25344, NULL, 0, rows, 15, 3, out, 12, aux, 12, kept, 39, &first, &second) == RETAKE_REFUSED_MAP);
     CHECK(retake_render(0, 48000, 4, bank, 25344, NULL, 0, NULL, 0, 3, out, 12, aux, 12, kept, 39, &first, &second) == RETAKE_REFUSED_ROWS);
@@ -297,14 +308,70 @@ static void full(void) {
     }
 }
 
+/* Fills the bytes to write to with one that no text has. */
+static void wipe(void) {
+    memset(written, '#', sizeof written);
+}
+
+/* Are the bytes from this place on as they were filled? */
+static int wiped_from(size_t place) {
+    size_t i;
+    for (i = place; i < sizeof written; i++) {
+        if (written[i] != '#') return 0;
+    }
+    return 1;
+}
+
+/* Is the score written as the text, into so many lent bytes, and nothing behind it? */
+static int tidy(const retake_score *score, size_t lent) {
+    retake_report report;
+    wipe();
+    report = retake_write_text(score, written, lent);
+    return report.refusal == RETAKE_DONE && report.place == 0 && report.rows == 0 && report.held == 0 && report.bytes == sizeof text - 1
+        && memcmp(written, text, sizeof text - 1) == 0 && wiped_from(sizeof text - 1);
+}
+
+/* Scores written, and refused in the order of the numbers. */
+static void writing(void) {
+    const size_t length = sizeof text - 1, most = RETAKE_TEXT_LENGTH(RETAKE_MOST_ROWS);
+    retake_score score = score_of(ROOM * RETAKE_ROW_WORDS), longest = {many, (RETAKE_MOST_ROWS + 1) * RETAKE_ROW_WORDS, RETAKE_MOST_ROWS};
+    CHECK(RETAKE_TEXT_LENGTH(ROWS) == length && sizeof RETAKE_TEXT_LENGTH(ROWS) == sizeof(size_t) && most < sizeof written);
+
+    CHECK(done(retake_read_text(&score, text, length), ROWS));
+    CHECK(tidy(&score, length) && tidy(&score, length + 1) && tidy(&score, sizeof written));
+    fill(rows, ROOM * RETAKE_ROW_WORDS);
+    CHECK(done(retake_read_text(&score, shuffled, length), ROWS));
+    CHECK(tidy(&score, length) && filled(rows, ROWS * RETAKE_ROW_WORDS, ROOM * RETAKE_ROW_WORDS));
+    score.rows_len = ROWS * RETAKE_ROW_WORDS;
+    CHECK(tidy(&score, length));
+
+    wipe();
+    CHECK(refused(retake_write_text(&score, written, length - 1), RETAKE_REFUSED_PAPER, 0));
+    rows[9] = 2;
+    CHECK(refused(retake_write_text(&score, written, length), RETAKE_REFUSED_LIMIT, 1));
+    CHECK(refused(retake_write_text(&score, written, length - 1), RETAKE_REFUSED_LIMIT, 1));
+    score.rows_len--;
+    CHECK(refused(retake_write_text(&score, written, length), RETAKE_REFUSED_ROWS, 0));
+    score.count = 0;
+    CHECK(refused(retake_write_text(&score, written, length), RETAKE_REFUSED_ROWS, 0));
+    score.count = UINT64_MAX;
+    CHECK(refused(retake_write_text(&score, written, length), RETAKE_REFUSED_ROWS, 0));
+    longest.count++;
+    CHECK(refused(retake_write_text(&longest, written, sizeof written), RETAKE_REFUSED_ROWS, 0));
+    longest.count--;
+    CHECK(refused(retake_write_text(&longest, written, most - 1), RETAKE_REFUSED_PAPER, 0));
+    CHECK(wiped_from(0));
+    CHECK(retake_write_text(&longest, written, most).bytes == most && written[most - 1] == '\n' && wiped_from(most));
+}
+
 /* A text of its own for each number, and one for the numbers that are none. */
 static void texts(void) {
     uint32_t a, b;
-    for (a = RETAKE_DONE; a <= RETAKE_REFUSED_FULL + 1; a++) {
+    for (a = RETAKE_DONE; a <= RETAKE_REFUSED_PAPER + 1; a++) {
         CHECK(retake_refusal_text(a)[0] != '\0');
         for (b = RETAKE_DONE; b < a; b++) CHECK(strcmp(retake_refusal_text(a), retake_refusal_text(b)) != 0);
     }
-    CHECK(strcmp(retake_refusal_text(UINT32_MAX), retake_refusal_text(RETAKE_REFUSED_FULL + 1)) == 0);
+    CHECK(strcmp(retake_refusal_text(UINT32_MAX), retake_refusal_text(RETAKE_REFUSED_PAPER + 1)) == 0);
 }
 
 int main(void) {
@@ -320,6 +387,7 @@ int main(void) {
     }
     refusals();
     full();
+    writing();
     texts();
     printf("header: as it says\n");
     return 0;
