@@ -172,6 +172,36 @@ pub fn read_score(text: &[u8], rows: &mut [u32]) -> Result<usize, Refusal> {
     Ok(count as usize)
 }
 
+/// Bytes of the text of a score of this many rows: 36, and 45 for each row.
+pub const fn text_length(count: usize) -> usize {
+    const NAMES: usize = "note timbre morph harmonics restart\n".len();
+    const WORD: usize = "00000000 ".len();
+    NAMES + count * Row::WORDS * WORD
+}
+
+/// Writes a score, the first `count` rows of the lent words, as its tidy text into lent bytes and returns
+/// how many it wrote, [`text_length`] of the count. Bytes past them keep what they had.
+///
+/// ```
+/// use wohketa_retake::{Reason, Row, text_length, write_score};
+///
+/// let rows = Row { timbre: 0.5, restart: true, ..Row::default() }.words();
+/// let mut text = [b'?'; text_length(1) + 1];
+/// assert_eq!(write_score(&rows, 1, &mut text), Ok(81));
+/// assert_eq!(&text, b"note timbre morph harmonics restart\n42700000 3f000000 00000000 00000000 00000001\n?");
+///
+/// let refusal = write_score(&rows, 1, &mut text[..80]).unwrap_err();
+/// assert_eq!(refusal.reason, Reason::Paper);
+/// ```
+pub fn write_score(rows: &[u32], count: usize, text: &mut [u8]) -> Result<usize, Refusal> {
+    // SAFETY: as in `read_score`.
+    let (bytes, _) = answer(|first, second| unsafe {
+        sys::retake_write_score(rows.as_ptr(), rows.len(), count as u64, text.as_mut_ptr(), text.len(), first, second)
+    })
+    .map_err(|refusal| refusal.in_row(|k| row_words(rows, k)))?;
+    Ok(bytes as usize)
+}
+
 /// Renders a whole score, the first `count` rows of the lent words, into a take.
 ///
 /// ```

@@ -44,10 +44,10 @@
 //! # Ok::<(), wohketa_retake::Refusal>(())
 //! ```
 //!
-//! [`read_score`], [`render`], [`edit`], [`insert`] and [`remove`] are the library's functions over
-//! buffers that the caller lends, with the row count beside them: the last three start from the words
-//! that the lent take keeps, whatever they are, and the caller sees to it that they are those of a
-//! rendering with the same setup. [`sys`] has the C functions.
+//! [`read_score`], [`write_score`], [`render`], [`edit`], [`insert`] and [`remove`] are the library's
+//! functions over buffers that the caller lends, with the row count beside them: the last three start
+//! from the words that the lent take keeps, whatever they are, and the caller sees to it that they are
+//! those of a rendering with the same setup. [`sys`] has the C functions.
 #![deny(missing_docs)]
 
 mod calls;
@@ -56,7 +56,9 @@ mod refusal;
 mod row;
 pub mod sys;
 
-pub use calls::{Instrument, Report, Setup, Take, edit, insert, read_score, remove, render, samples};
+pub use calls::{
+    Instrument, Report, Setup, Take, edit, insert, read_score, remove, render, samples, text_length, write_score,
+};
 pub use reel::{Block, Edited, Reel};
 pub use refusal::{Reason, Refusal};
 pub use row::{Column, Row};

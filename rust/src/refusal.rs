@@ -34,6 +34,8 @@ pub enum Reason {
     Space,
     /// 13: an insertion finds no room for one row more in the row words, out, aux or kept.
     Full,
+    /// 14: the lent text is shorter than the score needs.
+    Paper,
     /// A number of the library that this version does not know.
     Other(u32),
 }
@@ -55,6 +57,7 @@ impl Reason {
             11 => Reason::Value,
             12 => Reason::Space,
             13 => Reason::Full,
+            14 => Reason::Paper,
             other => Reason::Other(other),
         }
     }
@@ -75,6 +78,7 @@ impl Reason {
             Reason::Value => 11,
             Reason::Space => 12,
             Reason::Full => 13,
+            Reason::Paper => 14,
             Reason::Other(number) => number,
         }
     }
@@ -94,6 +98,7 @@ impl Reason {
             Reason::Value => "not five words of eight hexadecimal digits",
             Reason::Space => "the lent row words are fewer than the score needs",
             Reason::Full => "rows, out, aux or kept has no room for one row more",
+            Reason::Paper => "the lent text is shorter than the score needs",
             Reason::Other(_) => "a refusal that this version does not know",
         }
     }

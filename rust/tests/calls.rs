@@ -6,8 +6,8 @@ use std::ptr::{null, null_mut};
 
 use common::{ROW, Series, bank, instruments, map, setup};
 use wohketa_retake::{
-    BANK, Column, Instrument, KEPT_WORDS, MAP, Reason, Refusal, Row, Setup, Take, edit, insert, read_score, remove,
-    render, sys,
+    BANK, Column, Instrument, KEPT_WORDS, MAP, MOST_ROWS, Reason, Refusal, Row, Setup, Take, edit, insert, read_score,
+    remove, render, sys, text_length, write_score,
 };
 
 fn rows(count: usize) -> Vec<u32> {
@@ -419,6 +419,14 @@ fn instruments_and_lengths_of_other_callers_are_refused() {
     assert_eq!(reason(2, BANK), (Reason::Map, 0, 0));
     assert_eq!(reason(1, BANK), (Reason::Rows, 0, 0));
     assert_eq!(reason(3, BANK), (Reason::Rows, 0, 0));
+
+    let (row, mut first, mut second) = (ROW.words(), 7, 7);
+    // SAFETY: `row` has five words.
+    let number = unsafe { sys::retake_write_score(row.as_ptr(), 5, 1, null_mut(), 0, &mut first, &mut second) };
+    assert_eq!((Reason::of(number), first, second), (Reason::Paper, 0, 0));
+    // SAFETY: no word and no byte is lent.
+    let number = unsafe { sys::retake_write_score(null(), 0, 1, null_mut(), 0, &mut first, &mut second) };
+    assert_eq!((Reason::of(number), first, second), (Reason::Rows, 0, 0));
 }
 
 #[test]
@@ -443,6 +451,61 @@ fn texts_are_refused_by_line() {
     assert_eq!((refusal.reason, refusal.place, refusal.column), (Reason::Limit, 1, Some(Column::Restart)));
 }
 
+/// The text that a score's rows should have.
+fn tidy(rows: &[u32]) -> String {
+    let line = |row: &[u32]| row.iter().map(|word| format!("{word:08x}")).collect::<Vec<String>>().join(" ") + "\n";
+    "note timbre morph harmonics restart\n".to_owned() + &rows.chunks(Row::WORDS).map(line).collect::<String>()
+}
+
+#[test]
+fn a_text_is_written_into_as_many_bytes_as_it_has() {
+    for count in [1, 2, 7, MOST_ROWS] {
+        let (score, length) = (rows(count + 1), text_length(count));
+        let expected = tidy(&score[..count * Row::WORDS]);
+        assert_eq!(expected.len(), length);
+        for past in [0, 1, 100] {
+            let mut text = vec![b'#'; length + past];
+            assert_eq!(write_score(&score, count, &mut text), Ok(length));
+            assert_eq!(text, [expected.as_bytes(), &vec![b'#'; past]].concat());
+        }
+        let mut text = vec![b'#'; length - 1];
+        assert_eq!(refused(write_score(&score, count, &mut text)), (Reason::Paper, 0));
+        assert_eq!(text, vec![b'#'; length - 1]);
+
+        let mut back = vec![7; count * Row::WORDS + 1];
+        assert_eq!(read_score(expected.as_bytes(), &mut back), Ok(count));
+        assert_eq!(back, [&score[..count * Row::WORDS], &[7]].concat());
+    }
+}
+
+#[test]
+fn a_text_is_refused_by_rows_then_limits_then_paper() {
+    let mut text = [b'#'; text_length(3)];
+    let mut score = rows(4);
+    score[7] = 0x3f80_0001;
+    let mut answer = |words: usize, count: usize, bytes: usize| {
+        let refusal = write_score(&score[..words], count, &mut text[..bytes]).unwrap_err();
+        (refusal.reason, refusal.place, refusal.column)
+    };
+    let (rows, limit) = ((Reason::Rows, 0, None), (Reason::Limit, 1, Some(Column::Morph)));
+    for bytes in [0, text_length(3)] {
+        assert_eq!(answer(20, 0, bytes), rows);
+        assert_eq!(answer(20, 5, bytes), rows);
+        assert_eq!(answer(20, usize::MAX, bytes), rows);
+        assert_eq!(answer(14, 3, bytes), rows);
+        assert_eq!(answer(15, 3, bytes), limit);
+        assert_eq!(answer(10, 2, bytes), limit);
+    }
+    assert_eq!(answer(20, 1, text_length(1) - 1), (Reason::Paper, 0, None));
+    assert_eq!(text, [b'#'; text_length(3)]);
+    // Rows past the count are not judged.
+    assert_eq!(write_score(&score, 1, &mut text), Ok(text_length(1)));
+    let most = vec![0; (MOST_ROWS + 1) * Row::WORDS];
+    let mut text = vec![b'#'; text_length(MOST_ROWS + 1)];
+    assert_eq!(refused(write_score(&most, MOST_ROWS + 1, &mut text)), (Reason::Rows, 0));
+    assert_eq!(write_score(&most, MOST_ROWS, &mut text), Ok(text_length(MOST_ROWS)));
+}
+
 #[test]
 fn a_refusal_of_a_limit_names_row_and_column() {
     let bank = bank();
@@ -461,6 +524,7 @@ fn a_refusal_of_a_limit_names_row_and_column() {
         let score = [ROW.words(), row.words()].concat();
         let refusal = render(&setup, &score, 2, &mut Take::new(2, 24)).unwrap_err();
         assert_eq!(refusal.to_string(), text);
+        assert_eq!(write_score(&score, 2, &mut []).unwrap_err().to_string(), text);
     }
 
     // A bad row elsewhere in the score refuses as well, by its number in the score as it would be.
@@ -486,15 +550,15 @@ fn a_refusal_of_a_limit_names_row_and_column() {
 #[test]
 fn every_refusal_has_its_number_and_words() {
     let mut texts = Vec::new();
-    for number in 1..=13 {
+    for number in 1..=14 {
         let reason = Reason::of(number);
         assert_eq!(reason.number(), number);
         assert_ne!(reason, Reason::Other(number));
         texts.push(format!("{reason:?}"));
     }
     texts.dedup();
-    assert_eq!(texts.len(), 13);
-    for number in [0, 14, u32::MAX] {
+    assert_eq!(texts.len(), 14);
+    for number in [0, 15, u32::MAX] {
         assert_eq!((Reason::of(number), Reason::of(number).number()), (Reason::Other(number), number));
     }
     let text = |text: &[u8]| read_score(text, &mut []).unwrap_err().to_string();
@@ -512,6 +576,8 @@ fn every_refusal_has_its_number_and_words() {
     assert_eq!(refusal.to_string(), text);
     let refusal = insert(&setup, &mut score, 1, 0, ROW, &mut take).unwrap_err();
     assert_eq!(refusal.to_string(), "rows, out, aux or kept has no room for one row more (number 13)");
+    let refusal = write_score(&score, 1, &mut []).unwrap_err();
+    assert_eq!(refusal.to_string(), "the lent text is shorter than the score needs (number 14)");
     take.out.pop();
     let refusal = render(&setup, &score, 1, &mut take).unwrap_err();
     assert_eq!(refusal.to_string(), "out, aux or kept is shorter than the score needs (number 7)");
