@@ -44,6 +44,10 @@
 //! # Ok::<(), wohketa_retake::Refusal>(())
 //! ```
 //!
+//! A [`Score`] has the rows alone. It is read from a text and displayed as its tidy text: a version store
+//! that keeps that shows no change where columns were shuffled or letters changed case. A reel's is
+//! [`Reel::score`].
+//!
 //! [`read_score`], [`write_score`], [`render`], [`edit`], [`insert`] and [`remove`] are the library's
 //! functions over buffers that the caller lends, with the row count beside them: the last three start
 //! from the words that the lent take keeps, whatever they are, and the caller sees to it that they are
@@ -54,6 +58,7 @@ mod calls;
 mod reel;
 mod refusal;
 mod row;
+mod score;
 pub mod sys;
 
 pub use calls::{
@@ -62,6 +67,7 @@ pub use calls::{
 pub use reel::{Block, Edited, Reel};
 pub use refusal::{Reason, Refusal};
 pub use row::{Column, Row};
+pub use score::Score;
 
 /// Samples of a bank: 192 waves of 132.
 pub const BANK: usize = 25_344;

@@ -6,6 +6,7 @@ use std::ops::Range;
 use crate::calls::{self, Instrument, Report, Setup, Take, samples};
 use crate::refusal::Refusal;
 use crate::row::Row;
+use crate::score::Score;
 use crate::{BANK, KEPT_WORDS, MAP, MOST_FRAMES, MOST_ROWS};
 
 /// A voice, with a map of its own.
@@ -100,8 +101,8 @@ impl Edited {
 #[derive(Clone)]
 pub struct Reel {
     setup: OwnSetup,
-    // Between calls rows and take are just as long as the score; spare room is their vectors' capacity.
-    rows: Vec<u32>,
+    // Between calls row words and take are just as long as the score; spare room is their vectors' capacity.
+    score: Score,
     take: Take,
     rendering: Report,
 }
@@ -114,12 +115,12 @@ impl Reel {
 
     /// Renders a whole score, given as its row words.
     pub fn render_words(setup: &Setup, rows: Vec<u32>) -> Result<Reel, Refusal> {
-        // Part of a row counts as one, so that it is refused.
-        let count = rows.len().div_ceil(Row::WORDS);
+        let score = Score { rows };
+        let count = score.count();
         // Past these limits the call is refused before it looks at the take.
         let mut take = Take::new(count.min(MOST_ROWS), setup.frames.min(MOST_FRAMES));
-        let rendering = calls::render(setup, &rows, count, &mut take)?;
-        Ok(Reel { setup: OwnSetup::of(setup), rows, take, rendering })
+        let rendering = calls::render(setup, &score.rows, count, &mut take)?;
+        Ok(Reel { setup: OwnSetup::of(setup), score, take, rendering })
     }
 
     /// Renders a whole score, given as its text.
@@ -138,10 +139,7 @@ impl Reel {
     /// # Ok::<(), wohketa_retake::Refusal>(())
     /// ```
     pub fn render_text(setup: &Setup, text: &[u8]) -> Result<Reel, Refusal> {
-        let mut rows = vec![0; MOST_ROWS * Row::WORDS];
-        let count = calls::read_score(text, &mut rows)?;
-        rows.truncate(count * Row::WORDS);
-        Reel::render_words(setup, rows)
+        Reel::render_words(setup, Score::read(text)?.into_words())
     }
 
     /// Renders another whole score with this reel's setup in the place of the old one. A refused score
@@ -156,7 +154,7 @@ impl Reel {
     /// leaves the reel as it is.
     pub fn edit(&mut self, position: usize, row: Row) -> Result<Edited, Refusal> {
         let count = self.count();
-        let report = calls::edit(&self.setup.lent(), &mut self.rows, count, position, row, &mut self.take)?;
+        let report = calls::edit(&self.setup.lent(), &mut self.score.rows, count, position, row, &mut self.take)?;
         Ok(Edited::at(position, report))
     }
 
@@ -183,7 +181,7 @@ impl Reel {
         let count = self.count();
         // The longest score is refused whatever its room.
         self.set_count((count + 1).min(MOST_ROWS));
-        let answer = calls::insert(&self.setup.lent(), &mut self.rows, count, position, row, &mut self.take);
+        let answer = calls::insert(&self.setup.lent(), &mut self.score.rows, count, position, row, &mut self.take);
         if answer.is_err() {
             self.set_count(count);
         }
@@ -200,7 +198,7 @@ impl Reel {
     /// reel as it is.
     pub fn remove(&mut self, position: usize) -> Result<Edited, Refusal> {
         let count = self.count();
-        let report = calls::remove(&self.setup.lent(), &mut self.rows, count, position, &mut self.take)?;
+        let report = calls::remove(&self.setup.lent(), &mut self.score.rows, count, position, &mut self.take)?;
         self.set_count(count - 1);
         Ok(Edited::at(position, report))
     }
@@ -208,7 +206,7 @@ impl Reel {
     /// Makes rows and take as long as a score of this many rows.
     fn set_count(&mut self, count: usize) {
         let samples = count * self.setup.frames as usize;
-        self.rows.resize(count * Row::WORDS, 0);
+        self.score.rows.resize(count * Row::WORDS, 0);
         self.take.out.resize(samples, 0);
         self.take.aux.resize(samples, 0);
         self.take.kept.resize(count * KEPT_WORDS, 0);
@@ -219,25 +217,40 @@ impl Reel {
         self.setup.lent()
     }
 
+    /// The score, which is displayed as its tidy text.
+    ///
+    /// ```
+    /// # use wohketa_retake::{BANK, Instrument, Reel, Row, Setup};
+    /// # let bank = [0; BANK];
+    /// # let setup = Setup { instrument: Instrument::Wavetable, rate: 48_000, frames: 24, bank: &bank };
+    /// let mut reel = Reel::render(&setup, &[Row { note: 60.0, ..Row::default() }])?;
+    /// reel.edit(0, Row { note: 72.0, ..Row::default() })?;
+    /// let text = "note timbre morph harmonics restart\n42900000 00000000 00000000 00000000 00000000\n";
+    /// assert_eq!(reel.score().to_string(), text);
+    /// # Ok::<(), wohketa_retake::Refusal>(())
+    /// ```
+    pub fn score(&self) -> &Score {
+        &self.score
+    }
+
     /// How many rows the score has.
     pub fn count(&self) -> usize {
-        self.rows.len() / Row::WORDS
+        self.score.count()
     }
 
     /// The score's rows.
     pub fn rows(&self) -> impl Iterator<Item = Row> + '_ {
-        (0..self.count()).filter_map(|k| self.row(k))
+        self.score.rows()
     }
 
     /// Row k of the score.
     pub fn row(&self, k: usize) -> Option<Row> {
-        let words = self.rows.chunks_exact(Row::WORDS).nth(k)?;
-        Row::from_words(words.try_into().ok()?)
+        self.score.row(k)
     }
 
     /// The score's row words.
     pub fn words(&self) -> &[u32] {
-        &self.rows
+        self.score.words()
     }
 
     /// The samples of out, one block after the other.

@@ -3,7 +3,9 @@
 mod common;
 
 use common::{ROW, Series, bank, instruments, map, setup};
-use wohketa_retake::{Column, Edited, Instrument, KEPT_WORDS, MOST_ROWS, Reason, Reel, Refusal, Row, Setup, samples};
+use wohketa_retake::{
+    Column, Edited, Instrument, KEPT_WORDS, MOST_ROWS, Reason, Reel, Refusal, Row, Score, Setup, samples,
+};
 
 /// The same score and take, word by word.
 fn assert_same(reel: &Reel, other: &Reel) {
@@ -261,4 +263,20 @@ fn a_text_gives_the_reel_of_its_rows() {
         format!("note timbre morph harmonics restart\n{}\n{}\n", words(ROW), words(Row { restart: true, ..ROW }));
     let reel = Reel::render_text(&setup, text.as_bytes()).unwrap();
     assert_same(&reel, &Reel::render(&setup, &[ROW, Row { restart: true, ..ROW }]).unwrap());
+    assert_eq!(reel.score().to_string(), text);
+}
+
+#[test]
+fn a_reel_has_the_score_of_its_rows_after_each_call() {
+    let bank = bank();
+    let setup = setup(Instrument::Oscillator, &bank);
+    let high = Row { note: 72.0, ..ROW };
+    let mut reel = Reel::render(&setup, &[ROW; 3]).unwrap();
+    assert_eq!(*reel.score(), Score::new(&[ROW; 3]).unwrap());
+    reel.insert(1, high).unwrap();
+    reel.edit(0, high).unwrap();
+    reel.push(Row { timbre: 1.5, ..ROW }).unwrap_err();
+    reel.remove(3).unwrap();
+    assert_eq!(*reel.score(), Score::new(&[high, high, ROW]).unwrap());
+    assert_same(&reel, &Reel::render_text(&setup, reel.score().to_string().as_bytes()).unwrap());
 }
