@@ -1,8 +1,9 @@
-//! Document 01 and document 02's third voice (N1) and rows put in and taken out (N2) in plain Rust, frame
-//! by frame, written for being read and not for speed.
+//! Document 01 and document 02's third voice (N1), rows put in and taken out (N2) and tidy writer (N4) in
+//! plain Rust, frame by frame, written for being read and not for speed.
 //!
 //! It is the judge wherever the original has no answer: holds, kept words, edits, insertions, removals,
-//! refusals, the score text and the program. Elsewhere the comparison holds it to the original, bit for bit.
+//! refusals, the score text, read and written, and the program. Elsewhere the comparison holds it to the
+//! original, bit for bit.
 //! Only the published tables (sine, pitch ratios) are taken from the original's files.
 
 pub mod floats;
@@ -35,7 +36,8 @@ pub const RATES: std::ops::RangeInclusive<u32> = 32_000..=192_000;
 /// The result of a call.
 #[derive(Debug, Clone, Copy, PartialEq, Eq)]
 pub enum Answer {
-    /// (row count, 0) of the reader; (rows rendered, `held` of these rows) of the other calls.
+    /// (row count, 0) of the reader; (bytes, 0) of the writer; (rows rendered, `held` of these rows) of the
+    /// other calls.
     Done(u64, u64),
     /// Number and place.
     Refused(u32, u64),
@@ -66,4 +68,9 @@ impl Take {
         let samples = rows * frames as usize;
         Take { out: words(samples), aux: words(samples), kept: words(rows * KEPT_WORDS) }
     }
+}
+
+/// Is there room for so many places of so many words?
+fn room(lent: &[u32], places: u64, each: usize) -> bool {
+    lent.len() as u128 >= u128::from(places) * each as u128
 }

@@ -1,6 +1,6 @@
-//! "Score text": limits by name and the reader.
+//! "Score text", with document 02's tidy writer (N4): limits by name, the reader and the writer.
 
-use crate::{Answer, ROW_WORDS, ROWS};
+use crate::{Answer, ROW_WORDS, ROWS, room};
 
 /// The names in row order.
 pub const NAMES: [&str; ROW_WORDS] = ["note", "timbre", "morph", "harmonics", "restart"];
@@ -17,6 +17,22 @@ pub fn within(name: usize, word: u32) -> bool {
 
 pub fn row_within(row: &[u32]) -> bool {
     row.iter().enumerate().all(|(name, word)| within(name, *word))
+}
+
+/// May a score have so many rows?
+pub fn countable(count: u64) -> bool {
+    (1..=ROWS as u64).contains(&count)
+}
+
+/// Have lent row words so many rows, a number that a score may have? If not, rendering and writer refuse by 6.
+pub fn has_rows(rows: &[u32], count: u64) -> bool {
+    countable(count) && room(rows, count, ROW_WORDS)
+}
+
+/// Number 9 and the first row of a score that is outside its limits.
+pub fn beyond(score: &[u32]) -> Option<Answer> {
+    let bad = score.chunks(ROW_WORDS).position(|row| !row_within(row))?;
+    Some(Answer::Refused(9, bad as u64))
 }
 
 /// The text's lines. The second of each pair: an LF ends it.
@@ -79,7 +95,7 @@ pub fn rows(text: &[u8]) -> Result<Vec<[u32; ROW_WORDS]>, Answer> {
             if row_within(row) { Ok(()) } else { Err(Answer::Refused(9, number as u64)) }
         },
     )?;
-    if rows.is_empty() || rows.len() > ROWS {
+    if !countable(rows.len() as u64) {
         return Err(Answer::Refused(6, 0));
     }
     Ok(rows)
@@ -96,4 +112,37 @@ pub fn read_score(text: &[u8], lent: &mut [u32]) -> Answer {
             Answer::Done(rows.len() as u64, 0)
         }
     }
+}
+
+/// Bytes of the tidy text of so many rows.
+pub fn text_length(count: usize) -> usize {
+    36 + 45 * count
+}
+
+/// The tidy text of a score: names in row order, digits in lower case.
+pub fn tidy_text(score: &[u32]) -> String {
+    let mut text = NAMES.join(" ") + "\n";
+    for row in score.chunks(ROW_WORDS) {
+        let words: Vec<String> = row.iter().map(|word| format!("{word:08x}")).collect();
+        text += &(words.join(" ") + "\n");
+    }
+    text
+}
+
+/// The writer. Bytes past the text keep what they had.
+pub fn write_score(rows: &[u32], count: u64, lent: &mut [u8]) -> Answer {
+    if !has_rows(rows, count) {
+        return Answer::Refused(6, 0);
+    }
+    let count = count as usize;
+    let score = &rows[..count * ROW_WORDS];
+    if let Some(refusal) = beyond(score) {
+        return refusal;
+    }
+    let length = text_length(count);
+    if lent.len() < length {
+        return Answer::Refused(14, 0);
+    }
+    lent[..length].copy_from_slice(tidy_text(score).as_bytes());
+    Answer::Done(length as u64, 0)
 }

@@ -2,9 +2,9 @@
 //! (N2): fresh rendering, whole rendering, edit, insertion and removal, and what demand 3 says of these
 //! three.
 
-use crate::score::row_within;
+use crate::score::{beyond, countable, has_rows};
 use crate::voice::{Block, Voice};
-use crate::{Answer, BANK, FRAMES, KEPT_WORDS, MAP, RATES, ROW_WORDS, ROWS, Setup, Take};
+use crate::{Answer, BANK, FRAMES, KEPT_WORDS, MAP, RATES, ROW_WORDS, Setup, Take, room};
 
 /// One row of a fresh rendering.
 #[derive(Debug, Clone, PartialEq, Eq)]
@@ -99,11 +99,6 @@ pub fn fresh(setup: &Setup, score: &[u32]) -> Vec<Row> {
     rendered
 }
 
-/// Is there room for so many places of so many words?
-fn room(lent: &[u32], places: u64, each: usize) -> bool {
-    lent.len() as u128 >= u128::from(places) * each as u128
-}
-
 fn take_room(take: &Take, places: u64, frames: u32) -> bool {
     let frames = frames as usize;
     room(&take.out, places, frames) && room(&take.aux, places, frames) && room(&take.kept, places, KEPT_WORDS)
@@ -114,7 +109,6 @@ fn take_room(take: &Take, places: u64, frames: u32) -> bool {
 fn refusal(setup: &Setup, rows: &[u32], count: u64, change: Option<&Change>, take: &Take) -> Option<Answer> {
     let map = if setup.instrument == 2 { MAP } else { 0 };
     let resulting = change.map_or(count, |change| change.count(count));
-    let countable = |count: u64| (1..=ROWS as u64).contains(&count);
     let (position, taken, _) = change.map_or((0, 0, &[][..]), Change::parts);
     let tests = [
         (1, 0, setup.instrument > 3),
@@ -122,7 +116,7 @@ fn refusal(setup: &Setup, rows: &[u32], count: u64, change: Option<&Change>, tak
         (3, 0, setup.frames == 0 || setup.frames > FRAMES),
         (4, 0, setup.bank.len() != BANK),
         (5, 0, setup.map.len() != map),
-        (6, 0, !countable(count) || !room(rows, count, ROW_WORDS) || !countable(resulting)),
+        (6, 0, !has_rows(rows, count) || !countable(resulting)),
         (7, 0, !take_room(take, count, setup.frames)),
         (8, position, position.saturating_add(taken as u64) > count),
         (13, 0, !room(rows, resulting, ROW_WORDS) || !take_room(take, resulting, setup.frames)),
@@ -131,9 +125,7 @@ fn refusal(setup: &Setup, rows: &[u32], count: u64, change: Option<&Change>, tak
         return Some(Answer::Refused(number, place));
     }
     let score = &rows[..count as usize * ROW_WORDS];
-    let resulting = change.map_or(score.to_vec(), |change| change.of(score));
-    let bad = resulting.chunks(ROW_WORDS).position(|row| !row_within(row))?;
-    Some(Answer::Refused(9, bad as u64))
+    change.map_or_else(|| beyond(score), |change| beyond(&change.of(score)))
 }
 
 /// Puts a rendered row into its place of the take.

@@ -1,4 +1,4 @@
-//! The library's five C functions (`include/retake.h`) over the model.
+//! The library's six C functions (`include/retake.h`) over the model.
 //!
 //! # Safety
 //! Each pointer has as many elements behind it as its length says.
@@ -20,7 +20,7 @@ unsafe fn give(answer: Answer, first: *mut u64, second: *mut u64) -> u32 {
     number
 }
 
-/// What the calls but the reader are lent.
+/// What rendering, edit, insertion and removal are lent.
 struct Lent<'a> {
     setup: Setup<'a>,
     count: u64,
@@ -60,6 +60,22 @@ pub unsafe extern "C" fn retake_read_score(
 ) -> u32 {
     unsafe {
         let answer = score::read_score(from_raw_parts(text, text_len), from_raw_parts_mut(rows, rows_len));
+        give(answer, first, second)
+    }
+}
+
+#[unsafe(no_mangle)]
+pub unsafe extern "C" fn retake_write_score(
+    rows: *const u32,
+    rows_len: usize,
+    count: u64,
+    text: *mut u8,
+    text_len: usize,
+    first: *mut u64,
+    second: *mut u64,
+) -> u32 {
+    unsafe {
+        let answer = score::write_score(from_raw_parts(rows, rows_len), count, from_raw_parts_mut(text, text_len));
         give(answer, first, second)
     }
 }
