@@ -1,6 +1,8 @@
 //! Random and adverse inputs: rows, banks, maps, setups, junk takes, longer buffers, texts.
 
-use model::score::NAMES;
+use std::fmt;
+
+use model::score::{NAMES, tidy_text};
 use model::{BANK, KEPT_WORDS, MAP, ROW_WORDS, Setup, Take};
 
 use crate::random::Random;
@@ -76,6 +78,13 @@ impl Case {
         }
         // 3,520 Hz is a sixteenth of the rate.
         Case { instrument, rate: 56_320, frames, bank: bank(random, published), map: Vec::new(), rows }
+    }
+}
+
+impl fmt::Display for Case {
+    fn fmt(&self, f: &mut fmt::Formatter) -> fmt::Result {
+        writeln!(f, "instrument {} rate {} frames {}", self.instrument, self.rate, self.frames)?;
+        f.write_str(&tidy_text(&self.rows))
     }
 }
 
@@ -258,21 +267,28 @@ pub fn odd_state(random: &mut Random, instrument: u32) -> [u32; KEPT_WORDS] {
     })
 }
 
+/// The text of rows with the columns in this order; `letters` may change the letter case of each line of values.
+pub fn text_with<const N: usize>(
+    names: [&str; N],
+    columns: [usize; N],
+    rows: &[u32],
+    mut letters: impl FnMut(String) -> String,
+) -> Vec<u8> {
+    let mut text = columns.map(|c| names[c]).join(" ") + "\n";
+    for row in rows.chunks(N) {
+        text += &letters(columns.map(|c| format!("{:08x}", row[c])).join(" "));
+        text.push('\n');
+    }
+    text.into_bytes()
+}
+
 /// The text of rows, with shuffled columns and letters of either case.
 pub fn text<const N: usize>(random: &mut Random, names: [&str; N], rows: &[u32]) -> Vec<u8> {
     let mut columns: [usize; N] = std::array::from_fn(|i| i);
     for i in 1..N {
         columns.swap(i, random.below(i + 1));
     }
-    let mut text = columns.map(|c| names[c].to_string()).join(" ").into_bytes();
-    text.push(b'\n');
-    for row in rows.chunks(N) {
-        let upper = random.once_in(2);
-        let words = columns.map(|c| if upper { format!("{:08X}", row[c]) } else { format!("{:08x}", row[c]) });
-        text.extend(words.join(" ").into_bytes());
-        text.push(b'\n');
-    }
-    text
+    text_with(names, columns, rows, |line| if random.once_in(2) { line.to_uppercase() } else { line })
 }
 
 /// One small change of a text.
@@ -294,14 +310,4 @@ pub fn damage(random: &mut Random, text: &mut Vec<u8>) {
             text.splice(at..end, name.iter().copied());
         }
     }
-}
-
-/// Row words in document 01's text form, to show a failing score.
-pub fn show(rows: &[u32]) -> String {
-    let mut shown = NAMES.join(" ") + "\n";
-    for row in rows.chunks(ROW_WORDS) {
-        let words: Vec<String> = row.iter().map(|w| format!("{w:08x}")).collect();
-        shown += &(words.join(" ") + "\n");
-    }
-    shown
 }

@@ -1,37 +1,49 @@
-//! The library's calls on any words and lengths, with guard words around each lent buffer.
+//! The library's calls on any words and lengths, with guards around each lent buffer.
 
 use model::take::Change;
 use model::{Answer, Setup, Take};
 use wohketa_retake::sys;
 
-/// Words before and after a lent buffer that no call may touch.
-const GUARD: usize = 16;
-const GUARD_WORD: u32 = 0xdead_beef;
+/// How many elements stand before and after a lent buffer that no call may touch.
+const GUARDS: usize = 16;
 
-/// A copy of a buffer between guard words.
-struct Guarded {
-    words: Vec<u32>,
+/// A word or a byte.
+trait Element: Copy + PartialEq {
+    const GUARD: Self;
 }
 
-impl Guarded {
-    fn of(buffer: &[u32]) -> Self {
-        let guard = [GUARD_WORD; GUARD];
-        Guarded { words: [&guard, buffer, &guard].concat() }
+impl Element for u32 {
+    const GUARD: u32 = 0xdead_beef;
+}
+
+impl Element for u8 {
+    const GUARD: u8 = 0xdb;
+}
+
+/// A copy of a buffer between guards.
+struct Guarded<T> {
+    elements: Vec<T>,
+}
+
+impl<T: Element> Guarded<T> {
+    fn of(buffer: &[T]) -> Self {
+        let guards = [T::GUARD; GUARDS];
+        Guarded { elements: [&guards, buffer, &guards].concat() }
     }
 
     fn len(&self) -> usize {
-        self.words.len() - 2 * GUARD
+        self.elements.len() - 2 * GUARDS
     }
 
-    fn pointer(&mut self) -> *mut u32 {
-        self.words[GUARD..].as_mut_ptr()
+    fn pointer(&mut self) -> *mut T {
+        self.elements[GUARDS..].as_mut_ptr()
     }
 
     /// Copies the buffer back.
-    fn give_back(&self, buffer: &mut [u32]) {
-        let (before, rest) = self.words.split_at(GUARD);
+    fn give_back(&self, buffer: &mut [T]) {
+        let (before, rest) = self.elements.split_at(GUARDS);
         let (inner, after) = rest.split_at(self.len());
-        let whole = |guard: &[u32]| guard.iter().all(|w| *w == GUARD_WORD);
+        let whole = |guards: &[T]| guards.iter().all(|guard| *guard == T::GUARD);
         assert!(whole(before) && whole(after), "a call wrote outside a lent buffer");
         buffer.copy_from_slice(inner);
     }
@@ -56,6 +68,16 @@ pub fn read_score(text: &[u8], rows: &mut [u32]) -> Answer {
         sys::retake_read_score(text.as_ptr(), text.len(), lent.pointer(), lent.len(), first, second)
     });
     lent.give_back(rows);
+    answer
+}
+
+pub fn write_score(rows: &[u32], count: u64, text: &mut [u8]) -> Answer {
+    let mut lent = Guarded::of(text);
+    // SAFETY: each pointer goes with its buffer's length.
+    let answer = answer(|first, second| unsafe {
+        sys::retake_write_score(rows.as_ptr(), rows.len(), count, lent.pointer(), lent.len(), first, second)
+    });
+    lent.give_back(text);
     answer
 }
 

@@ -8,7 +8,7 @@ use model::take::{self, Change, Row, demand_3, fresh};
 use model::voice::Voice;
 use model::{Answer, KEPT_WORDS, ROW_WORDS, Take};
 
-use crate::tally::{Tally, fail, same};
+use crate::tally::{Tally, same, same_start};
 
 /// The library's whole rendering into a lent take, beside the model's.
 pub fn rendering(case: &Case, lent: Lent, tally: &mut Tally) {
@@ -50,15 +50,9 @@ fn begin(words: &mut [u32], with: impl Iterator<Item = u32>) {
 
 /// The expected words are those that a take begins with.
 fn same_take(what: &str, case: &Case, found: &Take, expected: &Take) {
-    same_words(&format!("{what}: out"), case, &found.out, &expected.out);
-    same_words(&format!("{what}: aux"), case, &found.aux, &expected.aux);
-    same_words(&format!("{what}: kept"), case, &found.kept, &expected.kept);
-}
-
-fn same_words(what: &str, case: &Case, found: &[u32], expected: &[u32]) {
-    if let Some(at) = (0..expected.len()).find(|i| found[*i] != expected[*i]) {
-        fail(&format!("{what}[{at}] is {:08x}, expected {:08x}", found[at], expected[at]), case);
-    }
+    same_start(&format!("{what}: out"), case, &found.out, &expected.out);
+    same_start(&format!("{what}: aux"), case, &found.aux, &expected.aux);
+    same_start(&format!("{what}: kept"), case, &found.kept, &expected.kept);
 }
 
 /// An edit, an insertion or a removal: often at an end or near the rows that stand, sometimes out of its
@@ -104,7 +98,7 @@ pub fn one_change(case: &Case, change: &Change, found: &mut Lent, expected: &mut
     let what = format!("{change:08x?} of {} rows in {} row words", expected.count, expected.rows.len());
     let answer = take::change(&setup, &mut expected.rows, expected.count, change, &mut expected.take);
     same(&what, case, library::change(&setup, &mut found.rows, found.count, change, &mut found.take), answer);
-    same_words(&format!("{what}: rows"), case, &found.rows, &expected.rows);
+    same_start(&format!("{what}: rows"), case, &found.rows, &expected.rows);
     same_take(&what, case, &found.take, &expected.take);
     let name = changes::name(change);
     match answer {

@@ -8,8 +8,9 @@ use model::take::Change;
 use model::{Answer, KEPT_WORDS, ROW_WORDS, floats, program, wavetable};
 
 use crate::calls::{one_change, rendering};
-use crate::tally::{Tally, same};
+use crate::tally::{Tally, same, same_start};
 use crate::voices::model_is_original;
+use crate::writer::{Lent, writing};
 
 /// Rows that are all the same.
 fn steady(count: usize, row: [u32; ROW_WORDS]) -> Vec<u32> {
@@ -131,6 +132,7 @@ pub fn facts(published: &[i16], random: &mut Random, tally: &mut Tally) {
     same("an edit that never fades", &case, answer, Answer::Done(4084, 0));
 
     splices(plain, random, tally);
+    writings(tally);
 
     // Kept words can stay subnormal.
     let mut case = plain(0, 1, steady(600, [0x4270_0000, 0, 0, 0, 0]));
@@ -207,6 +209,53 @@ fn splices(plain: impl Fn(u32, u32, Vec<u32>) -> Case, random: &mut Random, tall
         lent.take.kept[..KEPT_WORDS].copy_from_slice(&Original::new(case.setup()).kept());
         let found = one_change(&case, &Remove(0), &mut lent.clone(), &mut lent, tally);
         same("a removal at the fresh state", &case, found, Done(0, 0));
+    }
+}
+
+/// Writings with a known answer and a known text, of rows that were read from an untidy one.
+fn writings(tally: &mut Tally) {
+    use Answer::{Done, Refused};
+    const UNTIDY: &str = "restart harmonics note morph timbre\n\
+        00000001 00000000 42F00000 80000000 3F800000\n\
+        00000000 3f7FFfff 3dAbCdEf 00678900 3E012345\n";
+    const TIDY: &str = "note timbre morph harmonics restart\n\
+        42f00000 3f800000 80000000 00000000 00000001\n\
+        3dabcdef 3e012345 00678900 3f7fffff 00000000\n";
+    let mut two = [7; 2 * ROW_WORDS];
+    same("reading an untidy text", &UNTIDY, library::read_score(UNTIDY.as_bytes(), &mut two), Done(2, 0));
+    let mut loud = two;
+    loud[7] = 0x3f80_0001;
+    let (names, line) = TIDY[..81].split_at(36);
+    let longest = names.to_string() + &line.repeat(4_096);
+    let many = two[..ROW_WORDS].repeat(4_097);
+    for (rows, count, length, text, answer) in [
+        // Just long enough, longer, too short.
+        (&two[..], 2, 126, TIDY, Done(126, 0)),
+        (&two, 2, 130, TIDY, Done(126, 0)),
+        (&two, 2, 125, TIDY, Refused(14, 0)),
+        (&two, 2, 0, TIDY, Refused(14, 0)),
+        // Nothing past the count is looked at.
+        (&two, 1, 81, TIDY, Done(81, 0)),
+        (&two, 1, 80, TIDY, Refused(14, 0)),
+        (&loud, 1, 81, TIDY, Done(81, 0)),
+        // The rows come before the limits, and these before the text.
+        (&loud, 0, 126, TIDY, Refused(6, 0)),
+        (&loud, 3, 126, TIDY, Refused(6, 0)),
+        (&loud[..9], 2, 0, TIDY, Refused(6, 0)),
+        (&loud, 2, 126, TIDY, Refused(9, 1)),
+        (&loud, 2, 0, TIDY, Refused(9, 1)),
+        // The longest score.
+        (&many, 4_096, 184_356, &longest, Done(184_356, 0)),
+        (&many, 4_096, 184_400, &longest, Done(184_356, 0)),
+        (&many, 4_096, 184_355, &longest, Refused(14, 0)),
+        (&many, 4_097, 184_401, &longest, Refused(6, 0)),
+    ] {
+        let lent = Lent { rows: rows.to_vec(), count, text: vec![b'.'; length] };
+        let (found, written) = writing(&lent, tally);
+        same("known answer of the writer", &lent, found, answer);
+        let bytes = if let Done(bytes, _) = answer { bytes as usize } else { 0 };
+        let expected = text[..bytes].to_string() + &".".repeat(length - bytes);
+        same_start("known text", &lent, &written, expected.as_bytes());
     }
 }
 

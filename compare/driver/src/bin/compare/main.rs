@@ -10,6 +10,7 @@ mod facts;
 mod tally;
 mod texts;
 mod voices;
+mod writer;
 
 use std::path::Path;
 
@@ -21,6 +22,7 @@ use calls::{at_limits, junk_lists, library_is_fresh, lists, rendering};
 use tally::Tally;
 use texts::{programs, texts};
 use voices::{model_is_original, model_is_original_on_any_state};
+use writer::{orders, random_lent, round_trips, writing};
 
 fn main() {
     let mut arguments = std::env::args().skip(1).map(|a| a.parse::<u64>().expect("SCALE and SEED are numbers"));
@@ -56,6 +58,12 @@ fn main() {
         }
         for _ in 0..10 {
             texts(random, &mut tally);
+            writing(&random_lent(random), &mut tally);
+        }
+    }
+    for _ in 0..10 * scale {
+        for columns in orders() {
+            round_trips(columns, random, &mut tally);
         }
     }
     let program = std::env::var("RETAKE_PROGRAM").unwrap_or_default();

@@ -8,10 +8,10 @@ use driver::random::Random;
 use model::score::{self, NAMES};
 use model::{Answer, ROW_WORDS, program};
 
-use crate::tally::Tally;
+use crate::tally::{Tally, same, same_start};
 
-/// A text for the reader: good, with a bad word, or damaged.
-fn random_text(random: &mut Random) -> Vec<u8> {
+/// Rows of a text: none, a few, as many as a score may have or one more, now and then with a bad word.
+pub fn random_rows(random: &mut Random) -> Vec<u32> {
     let count = match random.below(60) {
         0 => 4_096,
         1 => 4_097,
@@ -23,6 +23,12 @@ fn random_text(random: &mut Random) -> Vec<u8> {
         let at = random.below(rows.len());
         rows[at] = cases::junk_word(random);
     }
+    rows
+}
+
+/// A text for the reader: good, with a bad word, or damaged.
+fn random_text(random: &mut Random) -> Vec<u8> {
+    let rows = random_rows(random);
     let mut text = cases::text(random, NAMES, &rows);
     if random.once_in(2) {
         for _ in 0..1 + random.below(2) {
@@ -41,10 +47,8 @@ pub fn texts(random: &mut Random, tally: &mut Tally) {
     let mut found = expected.clone();
     let answer = score::read_score(&text, &mut expected);
     let read = library::read_score(&text, &mut found);
-    if read != answer || found != expected {
-        println!("DIFFERENT: reader: {read:?}, expected {answer:?}\n{}", text.escape_ascii());
-        exit(1);
-    }
+    same("answer of the reader", &text.escape_ascii(), read, answer);
+    same_start("rows that were read", &text.escape_ascii(), &found, &expected);
     match answer {
         Answer::Done(..) => tally.add("reader: accepted", 1),
         Answer::Refused(number, _) => tally.add(format!("reader: refused by {number:2}"), 1),
