@@ -18,7 +18,9 @@ COLOURS = {
     "remove": "#97266d",
     "move": "#718096",
     "read": "#b7791f",
+    "write": "#c05621",
 }
+TEXTS = {"read": "reading the text", "write": "writing the text"}
 
 
 def x_of(ratio):
@@ -28,8 +30,8 @@ def x_of(ratio):
 
 def label(measurement):
     words = measurement.split()
-    if words[0] == "read":
-        return "reading the text"
+    if words[0] in TEXTS:
+        return TEXTS[words[0]]
     if words[0] == "render":
         return f"render, {VOICES[words[1]]}, {words[2]} bank"
     if words[0] in ("insert", "remove", "move"):

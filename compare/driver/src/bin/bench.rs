@@ -7,9 +7,9 @@
 //! that is not inlined), and whole renderings alone are measured. These are two programs, since in one
 //! the second caller would spoil the first.
 //!
-//! The original has no reader, and its rows cannot be edited, put in or taken out. A user of it renders
-//! the whole score again, so these calls are set against its whole rendering of the same 4,096 rows. A
-//! plain move of the words that a removal moves is measured beside them.
+//! The original has no reader and no writer, and its rows cannot be edited, put in or taken out. A user of
+//! it renders the whole score again, so these calls are set against its whole rendering of the same 4,096
+//! rows. A plain move of the words that a removal moves is measured beside them.
 
 use std::hint::black_box;
 use std::time::{Duration, Instant};
@@ -17,9 +17,9 @@ use std::time::{Duration, Instant};
 use driver::cases;
 use driver::original;
 use driver::random::Random;
-use model::score::NAMES;
+use model::score::{NAMES, text_length, tidy_text};
 use wohketa_retake::{
-    BANK, Instrument, KEPT_WORDS, MAP, Refusal, Report, Row, Setup, Take, edit, insert, read_score, remove, render,
+    BANK, Instrument, KEPT_WORDS, MAP, Refusal, Report, Row, Setup, Take, edit, insert, read_score, remove, render, sys,
 };
 
 const INSTRUMENTS: std::ops::RangeInclusive<u32> = 0..=3;
@@ -146,6 +146,31 @@ impl<'a> Bench<'a> {
         self.measure("read", |_| timed(|| read_score(&text, &mut rows)));
         assert_eq!(rows, self.rows);
     }
+
+    /// Writing the score's text.
+    fn writes(&mut self) {
+        let rows = self.rows;
+        let mut text = vec![0; text_length(ROWS)];
+        self.measure("write", |_| timed(|| write_score(rows, ROWS, &mut text)));
+        assert!(text == tidy_text(rows).as_bytes(), "a different text");
+    }
+}
+
+/// The library's writer.
+fn write_score(rows: &[u32], count: usize, text: &mut [u8]) -> u32 {
+    let (mut first, mut second) = (0, 0);
+    // SAFETY: each pointer goes with its slice's length, and nothing else refers to what is written.
+    unsafe {
+        sys::retake_write_score(
+            rows.as_ptr(),
+            rows.len(),
+            count as u64,
+            text.as_mut_ptr(),
+            text.len(),
+            &mut first,
+            &mut second,
+        )
+    }
 }
 
 /// A row that is put into the score.
@@ -222,4 +247,5 @@ fn main() {
         Bench::new(0, &published, &map, &rows).moves(place, taken_out);
     }
     Bench::new(0, &published, &map, &rows).reads();
+    Bench::new(0, &published, &map, &rows).writes();
 }
