@@ -3,7 +3,7 @@
 //!     calls > crates/c_calls/stdout
 
 use driver::changes;
-use model::score::read_score;
+use model::score::{read_score, write_score};
 use model::take::{Change, change, render};
 use model::{Answer, BANK, MAP, ROW_WORDS, Setup, Take};
 
@@ -32,10 +32,25 @@ fn print_words(name: &str, words: &[u32]) {
     println!("{name}{words}");
 }
 
+/// A writing, and every lent byte as it is.
+fn print_writing(rows: &[u32], count: u64, text: &mut [u8]) {
+    print_values("write", write_score(rows, count, text));
+    println!("text\n{}", String::from_utf8_lossy(text));
+}
+
 fn print_take(take: &Take) {
     print_words("out", &take.out);
     print_words("aux", &take.aux);
     print_words("kept", &take.kept);
+}
+
+/// The score of three rows written into a text that is longer by four bytes; a fourth row outside its limits; a text that
+/// is shorter by one byte.
+fn write(rows: &[u32]) {
+    let mut text = [b'.'; 175];
+    print_writing(rows, 3, &mut text);
+    print_writing(rows, 4, &mut text);
+    print_writing(rows, 3, &mut [b'.'; 170]);
 }
 
 /// The score of three rows rendered and then changed, in buffers with room for a fourth: an accepted edit, one past the
@@ -68,6 +83,7 @@ fn main() {
         print_values("read", read_score(text.as_bytes(), &mut rows));
         print_words("rows", &rows);
     }
+    write(&rows);
     let bank: Vec<i16> = (0..BANK).map(|i| (i * 7919 % 32749) as i16).collect();
     let map = vec![90; MAP];
     let wavetable = Setup { instrument: 0, rate: 48_000, frames: FRAMES, bank: &bank, map: &[] };
