@@ -11,6 +11,7 @@ enum { STACK = 1 << 20, ROWS = 64, ROOM = ROWS + 1, FRAMES = 128, PAINT = 0xa5 }
 static int16_t bank[25344];
 static uint8_t map[4096];
 static uint32_t rows[ROOM * 5], out[ROOM * FRAMES], aux[ROOM * FRAMES], kept[ROOM * 13];
+static uint8_t written[RETAKE_TEXT_LENGTH(ROWS)];
 static uint32_t instrument;
 static uint64_t first, second;
 static uint32_t answer;
@@ -49,6 +50,11 @@ static void *read_score(void *unused) {
     return unused;
 }
 
+static void *write_score(void *unused) {
+    answer = retake_write_score(rows, ROOM * 5, ROWS, written, sizeof written, &first, &second);
+    return unused;
+}
+
 /* The calls in their order: what one leaves is handed to the next. */
 static const struct {
     const char *name;
@@ -82,6 +88,8 @@ int main(void) {
         rows[i * 5 + 3] = i % 2 ? 0x3f800000 : 0x3f000000;
         rows[i * 5 + 4] = 0;
     }
+    printf("writing: %zu bytes\n", used(write_score) - own);
+    if (answer) return 1;
     for (instrument = 0; instrument < 4; instrument++) {
         printf("instrument %u:", instrument);
         for (int i = 0; i < 4; i++) {
