@@ -1,5 +1,5 @@
 // Calls the C functions by position, with arguments that tell them apart, and prints what they return, what they write to `first` and
-// `second`, and every lent word. A contract speaks of a parameter by its name, C binds it by its place: two parameters that change places show here.
+// `second`, and every lent word and byte. A contract speaks of a parameter by its name, C binds it by its place: two parameters that change places show here.
 ghost use mathlib.Core.Path.{_≡_};
 ghost use lib.ListN.{length};
 use trial::say;
@@ -59,6 +59,16 @@ fn read(text: &[u8], rows: &mut [u32]) {
     let number = retake_c::retake_read_score(text, rows, &mut first, &mut second);
     print_values(b"read", number, first, second);
     say_words(b"rows", rows);
+}
+
+fn write(rows: &[u32], count: u64, text: &mut [u8]) {
+    let mut first = UNWRITTEN;
+    let mut second = UNWRITTEN;
+    let number = retake_c::retake_write_score(rows, count, text, &mut first, &mut second);
+    print_values(b"write", number, first, second);
+    say(b"text\n");
+    say(text);
+    say(b"\n");
 }
 
 fn render(
@@ -293,8 +303,18 @@ fn read_texts() -> [u32; 20] {
     rows
 }
 
+// A text that is longer than its score needs; a row outside its limits, and too short a text for it; and a text one byte too short.
+fn write_texts(rows: &[u32]) {
+    let mut text = [b'.'; 175];
+    write(rows, 3, &mut text);
+    write(rows, 4, &mut text);
+    let mut short = [b'.'; 170];
+    write(rows, 3, &mut short);
+}
+
 fn main() {
     let rows = read_texts();
+    write_texts(&rows);
     let mut bank = [0i16; 25344];
     fill_waves(&mut bank);
     let map = [90u8; 4096];

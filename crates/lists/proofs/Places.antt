@@ -7,7 +7,7 @@ use native.Mathlib.Nat.{suc-mul, mul-le-mul-right}
 use native.Mathlib.Numerals.{add-one}
 use native.Mathlib.Omega.{arith}
 use lib.ListN.{length, take, drop, length-append, length-drop, take-append-drop}
-use lib.Seq.{length-take-le, take-take, take-at, drop-at, drop-drop}
+use lib.Seq.{length-take-le, take-take, take-nil, take-at, drop-at, drop-drop}
 use Rattle.lists.specs.Lists.{part, put}
 
 -- ---- Numbers put in at a place.
@@ -33,6 +33,11 @@ module _ (l x : List ℕ) (a : ℕ) (h : a + length x ≤ length l) where
 -- The numbers that stand there put in change nothing.
 pub put-same : (l x : List ℕ) (a n : ℕ) → length x ≡ n → take n (drop a l) ≡ x → put l a x ≡ l
 put-same l x a n e w = rw (e, sym w, take-append-drop n (drop a l)) (take-append-drop a l)
+
+pub drop-of-take : (n k : ℕ) (l : List ℕ) → drop n (take (n + k) l) ≡ take k (drop n l)
+drop-of-take zero k l = let q : 0 + k ≡ k = omega arith in ap (λ (i : ℕ). take i l) q
+drop-of-take (suc n) k [] = let q : suc n + k ≡ suc (n + k) = omega arith in rw q (sym (take-nil k))
+drop-of-take (suc n) k (x ∷ l) = let q : suc n + k ≡ suc (n + k) = omega arith in rw q (drop-of-take n k l)
 
 -- ---- Part k.
 

@@ -1,12 +1,16 @@
 -- The first row outside the limits, by the rows before a place and those from it on; so also of rows put together from others.
 use mathlib.Core.Path.{_≡_, refl, sym, ap, _∙_}
-use mathlib.Core.List.{List, [], _∷_, _++_}
+use mathlib.Core.List.{List, _++_}
 use mathlib.Core.Bool.{Bool, true, false, cond}
 use Prim.Native.Nat.{ℕ, zero, suc, _+_, _-_, _*_, _≤_, _<_, zero-le}
 use native.Mathlib.Omega.{arith}
+use borrow.Author.Tests.{ltb-false}
+use lib.Dec.{ltb}
 use lib.ListN.{length, take, drop, length-drop}
-use lib.Seq.{length-take-le, take-take, take-nil, take-all, take-at, drop-at, drop-drop}
+use lib.Seq.{length-take-le, take-take, take-all, take-at, drop-at, drop-drop}
+use Rattle.lists.proofs.Places.{drop-of-take}
 use Rattle.lists.proofs.Shifts.{put-front-parts, insert-front, remove-front}
+use Rattle.score.specs.Numbers.{refusal, accepted, limitNumber}
 use Rattle.score.specs.Rows.{rowWords, putRow, insertRow, removeRow}
 use Rattle.score.specs.Limits.{rowWithin, firstBad, badRefusal, limitRefusal}
 use Rattle.score.specs.Inner.{front, rowsFrom}
@@ -20,11 +24,6 @@ first-bad-most (suc n) rows = go (rowWithin (take rowWords rows)) (first-bad-mos
     go true h = omega arith
     go false h = zero-le
 
-drop-of-take : (n k : ℕ) (l : List ℕ) → drop n (take (n + k) l) ≡ take k (drop n l)
-drop-of-take zero k l = let q : 0 + k ≡ k = omega arith in ap (λ (i : ℕ). take i l) q
-drop-of-take (suc n) k [] = let q : suc n + k ≡ suc (n + k) = omega arith in rw q (sym (take-nil k))
-drop-of-take (suc n) k (x ∷ l) = let q : suc n + k ≡ suc (n + k) = omega arith in rw q (drop-of-take n k l)
-
 -- Only the words of those rows count.
 bad-of-take : (n : ℕ) (rows : List ℕ) → firstBad n (take (n * rowWords) rows) ≡ firstBad n rows
 unfolding firstBad
@@ -36,6 +35,15 @@ bad-of-take (suc n) rows =
 pub limit-of-take : (n : ℕ) (rows : List ℕ) → limitRefusal n (take (n * rowWords) rows) ≡ limitRefusal n rows
 unfolding limitRefusal
 limit-of-take n rows = rw (bad-of-take n rows)
+
+-- Where 9 refuses nothing, no row is bad.
+pub none-refused : (n : ℕ) (rows : List ℕ) → limitRefusal n rows .number ≡ 0 → firstBad n rows ≡ n
+unfolding limitRefusal badRefusal
+none-refused n rows e = go (ltb (firstBad n rows) n) refl e
+  where
+    go : (b : Bool) → ltb (firstBad n rows) n ≡ b → cond b (refusal limitNumber (firstBad n rows)) accepted .number ≡ 0 → firstBad n rows ≡ n
+    go true l e = absurd (omega arith)
+    go false l e = omega (arith, ltb-false (firstBad n rows) n l, first-bad-most n rows)
 
 -- A row outside the limits among the first a is the first of all.
 bad-before : (a m : ℕ) (rows : List ℕ) → firstBad a rows < a → firstBad (a + m) rows ≡ firstBad a rows

@@ -1,5 +1,6 @@
-// Reads the texts of standard input, and long ones that it makes itself, and writes what each reading left.
-// A text of standard input ends at the byte that says how it is read: `~` as a score into 20 words, `<` as one into 14, `@` as edits into 18.
+// Reads the texts of standard input, and long ones that it makes itself, and writes what each reading left; and the tidy texts of scores.
+// A text of standard input ends at the byte that says how it is read: `~` as a score into 20 words, `<` as one into 14, `>` as one into 20 that
+// are then written into 130 bytes, `@` as edits into 18.
 // An LF after that byte belongs to no text.
 use libc::STDIN_FILENO;
 use libc::STDOUT_FILENO;
@@ -9,6 +10,7 @@ use trial::say;
 use trial::say_number;
 use trial::say_two;
 use trial::text_end;
+use writer::WriteAnswer;
 ghost use Prim.Native.Nat.{_≤_};
 ghost use lib.ListN.{length};
 
@@ -65,6 +67,36 @@ fn show(answer: ReadAnswer, words: &[u32]) {
     say(b"\n");
 }
 
+// The answer's line, and then the lent bytes.
+fn show_text(answer: WriteAnswer, text: &[u8]) {
+    match answer {
+        WriteAnswer::Written(bytes) => {
+            say(b"written");
+            say_number(bytes as u64);
+        }
+        WriteAnswer::Refused(r) => {
+            say_two(b"refused", r.number as u64, r.place as u64);
+        }
+    }
+    say(b"\n");
+    say(text);
+    say(b"\n");
+}
+
+// Reads a score, writes it, and shows the lent text.
+fn tidy(text: &[u8]) {
+    let mut rows = [FILL; 20];
+    let answer = reader::read(text, &mut rows);
+    match answer {
+        ReadAnswer::Read(count) => {
+            let mut tidied = [b'.'; 130];
+            let wrote = writer::write(&rows, count, &mut tidied);
+            show_text(wrote, &tidied);
+        }
+        ReadAnswer::Refused(_) => show(answer, &rows),
+    }
+}
+
 fn run(text: &[u8], how: u8) {
     if how == b'~' {
         let mut rows = [FILL; 20];
@@ -74,6 +106,8 @@ fn run(text: &[u8], how: u8) {
         let mut rows = [FILL; 14];
         let answer = reader::read(text, &mut rows);
         show(answer, &rows);
+    } else if how == b'>' {
+        tidy(text);
     } else {
         let mut edits = [FILL; 18];
         let answer = reader::read_edits(text, &mut edits);
@@ -84,7 +118,7 @@ fn run(text: &[u8], how: u8) {
 fn run_all(input: &[u8]) {
     let mut from = 0;
     while from < input.len() {
-        let end = text_end(input, from, b"~<@");
+        let end = text_end(input, from, b"~<>@");
         if end == input.len() {
             return;
         }
@@ -169,6 +203,35 @@ fn long_short(lines: usize) {
     read_long(&mut text, lines, b"", &mut words);
 }
 
+// Writes the most rows that a score can have, and shows the last 50 bytes that were lent.
+fn write_long(text: &mut [u8]) {
+    let rows = [0u32; 20480];
+    let answer = writer::write(&rows, 4096, text);
+    let count = text.len();
+    if count < 50 {
+        return;
+    }
+    show_text(answer, &text[count - 50..]);
+}
+
+// Writes them into one byte less than their text needs.
+fn write_short() {
+    let mut text = [b'.'; 184355];
+    write_long(&mut text);
+}
+
+// Into as many as it needs.
+fn write_exact() {
+    let mut text = [b'.'; 184356];
+    write_long(&mut text);
+}
+
+// Into four more.
+fn write_longer() {
+    let mut text = [b'.'; 184360];
+    write_long(&mut text);
+}
+
 fn main() {
     let mut input = [0u8; 32768];
     let size = io::read_full(STDIN_FILENO, &mut input);
@@ -179,4 +242,7 @@ fn main() {
     long(4095, b"42700000 3f000000 3f000000 3f000000 00000002\n");
     long_short(4096);
     long(4096, b"");
+    write_short();
+    write_exact();
+    write_longer();
 }

@@ -2,8 +2,8 @@
 use mathlib.Core.Path.{_≡_, refl, sym, ap, _∙_}
 use mathlib.Core.Bool.{Bool, true, false, _&&_, _||_, cond, false≢true}
 use mathlib.Core.List.{List, [], _∷_, _++_}
-use Prim.Native.Nat.{ℕ, zero, suc, _+_, _-_, _*_, _/_, _%_, _≤_, _<_, zero-le, suc-le-suc}
-use native.Mathlib.Nat.{add-suc, add-zero}
+use Prim.Native.Nat.{ℕ, zero, suc, _+_, _-_, _*_, _/_, _%_, _^_, _≤_, _<_, zero-le, suc-le-suc}
+use native.Mathlib.Nat.{add-suc, add-zero, mul-le-mul-right, mul-assoc, mul-comm, pow-suc}
 use native.Mathlib.Omega.{arith}
 use borrow.Author.Tests.{leb-true, eqb-true}
 use lib.Dec.{leb, eqb}
@@ -114,3 +114,24 @@ module _ (text : List ℕ) (at : ℕ) (e : isWord (take wordDigits (drop at text
   word-of-halves =
       after-four text (at + 4) (wordOf (take 4 (drop at text))) (omega (arith, word-fits))
       ∙ sym (ap wordOf (halves text at) ∙ followed 0 (take 4 (drop at text)) (take 4 (drop (at + 4) text)))
+
+-- ---- how large a word is
+digits-small : (number : ℕ) (field : List ℕ) → eachDigit field ≡ true → followedBy number field < (number + 1) * 16 ^ length field
+unfolding eachDigit followedBy
+digits-small number [] e = omega arith
+digits-small number (b ∷ field) e =
+    let d = both _ _ e in
+    let v = digit-value b (d .0) in
+    let l : digitOf b < 16 = omega (arith, v .0, v .1) in
+    let next = digits-small (number * 16 + digitOf b) field (d .1) in
+    let m : (number * 16 + digitOf b + 1) * 16 ^ length field ≤ (number + 1) * 16 * 16 ^ length field = mul-le-mul-right (16 ^ length field) (omega arith) in
+    let p : (number + 1) * 16 ^ suc (length field) ≡ (number + 1) * 16 * 16 ^ length field =
+    ap (λ (z : ℕ). (number + 1) * z) (pow-suc 16 (length field) ∙ mul-comm (16 ^ length field) 16) ∙ sym (mul-assoc (number + 1) 16 (16 ^ length field)) in
+    omega (arith, next, m, p)
+
+pub word-small : (field : List ℕ) → isWord field ≡ true → wordOf field < 2 ^ 32
+unfolding isWord wordOf
+word-small field e =
+    let d = both _ _ e in
+    let n : length field ≡ wordDigits = eqb-true (length field) wordDigits (d .0) in
+    rw n at (digits-small 0 field (d .1))

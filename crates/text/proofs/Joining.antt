@@ -68,6 +68,19 @@ module _ (at : ℕ) where
       go true e h = joined-cut [] _ _ (split at text) (first-piece at text) ∙ ap (λ (z : List ℕ). at ∷ z) h ∙ ap (λ (z : ℕ). z ∷ text) (sym (eqb-true b at e))
       go false e h = joined-first b _ _ (split at text) (first-piece at text) ∙ ap (λ (z : List ℕ). b ∷ z) h
 
+-- a byte that all pieces lack and that does not join them
+lacks-of : (at : ℕ) (a b : List ℕ) → lacks at a ≡ true → lacks at b ≡ true → lacks at (a ++ b) ≡ true
+lacks-of at [] b e f = f
+lacks-of at (x ∷ a) b e f = let d = both (not (eqb x at)) (lacks at a) e in rw (d .0) (lacks-of at a b (d .1) f)
+
+pub lacks-joined : (at by : ℕ) → eqb by at ≡ false → (ps : List (List ℕ)) → eachLacks at ps ≡ true → lacks at (joined by ps) ≡ true
+unfolding joined
+lacks-joined at by n [] e = refl
+lacks-joined at by n (p ∷ []) e = both _ _ e .0
+lacks-joined at by n (p ∷ q ∷ ps) e =
+    let d = both _ _ e in
+    lacks-of at p (by ∷ joined by (q ∷ ps)) (d .0) (rw n (lacks-joined at by n (q ∷ ps) (d .1)))
+
 -- ---- lines
 -- what stands on the line of some fields
 abbrev pub written : List (List ℕ) → Line

@@ -10,8 +10,8 @@ use borrow.Author.Tests.{lt-ltb, le-ltb, le-leb, lt-leb, eqb-true}
 use lib.Dec.{eqb}
 use lib.ListN.{length, length-append}
 use lib.Seq.{append-snoc}
-use Rattle.text.specs.Text.{between, isDigit, digitOf, eachDigit, wordDigits, isWord, followedBy, wordOf, lowerDigit, lowerDigits, fieldOf, noCapital}
-use Rattle.lists.proofs.Cases.{both, le-or-lt}
+use Rattle.text.specs.Text.{lf, space, joined, lineOf, textOf, between, isDigit, digitOf, eachDigit, wordDigits, isWord, followedBy, wordOf, lowerDigit, lowerDigits, fieldOf, noCapital}
+use Rattle.lists.proofs.Cases.{both, le-or-lt, and-true, and-false}
 use Rattle.text.proofs.Digits.{inside, followed, each-digit-of}
 use Rattle.text.proofs.Joining.{lacks}
 
@@ -100,7 +100,7 @@ unfolding wordOf fieldOf
 word-of-field word h = lower-value wordDigits word h
 
 -- ---- bytes that no digit is
-pub digits-lack : (at : ℕ) → isDigit at ≡ false → (bs : List ℕ) → eachDigit bs ≡ true → lacks at bs ≡ true
+digits-lack : (at : ℕ) → isDigit at ≡ false → (bs : List ℕ) → eachDigit bs ≡ true → lacks at bs ≡ true
 unfolding eachDigit
 digits-lack at n [] e = refl
 digits-lack at n (b ∷ bs) e = let d = both _ _ e in go (eqb b at) refl (d .0) (digits-lack at n bs (d .1))
@@ -108,6 +108,10 @@ digits-lack at n (b ∷ bs) e = let d = both _ _ e in go (eqb b at) refl (d .0) 
     go : (t : Bool) → eqb b at ≡ t → isDigit b ≡ true → lacks at bs ≡ true → not t && lacks at bs ≡ true
     go true q d l = absurd (false≢true (sym n ∙ ap isDigit (sym (eqb-true b at q)) ∙ d))
     go false q d l = l
+
+pub field-lacks : (at : ℕ) → isDigit at ≡ false → (word : ℕ) → lacks at (fieldOf word) ≡ true
+unfolding fieldOf
+field-lacks at n word = digits-lack at n (fieldOf word) (lower-each wordDigits word)
 
 -- ---- a word without a capital letter
 capital : (b : ℕ) → 65 ≤ b → b ≤ 70 → not (between 65 90 b) ≡ true → ⊥
@@ -146,3 +150,55 @@ field-of-word field e n =
     let d = both _ _ e in
     ap (λ (k : ℕ). lowerDigits k (followedBy 0 field)) (sym (eqb-true (length field) wordDigits (d .0)) ∙ sym (zero-add (length field)))
     ∙ read-behind 0 0 field (d .1) n
+
+-- ---- a text without a capital letter
+no-capital-of : (a b : List ℕ) → noCapital (a ++ b) ≡ noCapital a && noCapital b
+unfolding noCapital
+no-capital-of [] b = refl
+no-capital-of (x ∷ a) b = go (not (between 65 90 x)) (no-capital-of a b)
+  where
+    go : (t : Bool) → noCapital (a ++ b) ≡ noCapital a && noCapital b → t && noCapital (a ++ b) ≡ (t && noCapital a) && noCapital b
+    go true e = e
+    go false e = refl
+
+abbrev pub eachLower : List (List ℕ) → Bool
+eachLower [] = true
+eachLower (p ∷ ps) = noCapital p && eachLower ps
+
+abbrev pub linesLower : List (List (List ℕ)) → Bool
+linesLower [] = true
+linesLower (fields ∷ lines) = eachLower fields && linesLower lines
+
+no-capital-joined : (ps : List (List ℕ)) → noCapital (joined space ps) ≡ eachLower ps
+unfolding joined noCapital
+no-capital-joined [] = refl
+no-capital-joined (p ∷ []) = sym (and-true (noCapital p))
+no-capital-joined (p ∷ q ∷ ps) = no-capital-of p _ ∙ ap (λ (t : Bool). noCapital p && t) (no-capital-joined (q ∷ ps))
+
+pub no-capital-text : (lines : List (List (List ℕ))) → noCapital (textOf lines) ≡ linesLower lines
+unfolding textOf noCapital
+no-capital-text [] = refl
+no-capital-text (fields ∷ lines) =
+    no-capital-of (lineOf fields) (textOf lines)
+    ∙ rw (no-capital-of (joined space fields) (lf ∷ []), and-true (noCapital (joined space fields)), no-capital-joined fields, no-capital-text lines)
+
+lower-no-capital : (value : ℕ) → value < 16 → not (between 65 90 (lowerDigit value)) ≡ true
+unfolding lowerDigit
+lower-no-capital value h = ⊎-elim letter numeral (le-or-lt 10 value)
+  where
+    letter : 10 ≤ value → not (between 65 90 (lowerDigit value)) ≡ true
+    letter l = rw (le-ltb value 10 l, lt-leb (97 + (value - 10)) 90 (omega arith), and-false)
+
+    numeral : value < 10 → not (between 65 90 (lowerDigit value)) ≡ true
+    numeral l = rw (lt-ltb value 10 l, lt-leb 65 (48 + value) (omega arith))
+
+digits-no-capital : (count number : ℕ) → noCapital (lowerDigits count number) ≡ true
+unfolding lowerDigits noCapital
+digits-no-capital zero number = refl
+digits-no-capital (suc count) number =
+    no-capital-of (lowerDigits count (number / 16)) _
+    ∙ rw (digits-no-capital count (number / 16), lower-no-capital (number % 16) (omega arith))
+
+pub field-no-capital : (word : ℕ) → noCapital (fieldOf word) ≡ true
+unfolding fieldOf
+field-no-capital word = digits-no-capital wordDigits word

@@ -1,3 +1,7 @@
 -- What the proofs of this crate share.
 pub mod Lines
 pub mod Refusing
+pub mod ReadBack
+pub mod Fits
+pub mod AsItStood
+pub mod Tidying

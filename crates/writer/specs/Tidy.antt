@@ -33,15 +33,15 @@ pub record Tidy (text : List ℕ) : Type 0 where
 
 pub record TidyWriter : Type 0 where
   -- How many bytes a score needs.
-  pub long : (count : ℕ) (rows : List ℕ) → count * rowWords ≤ length rows → length (scoreText count rows) ≡ 36 + 45 * count
+  pub long : (count : ℕ) (rows : List ℕ) → count * rowWords ≤ length rows → length (scoreText count rows) ≡ 36 + count * 45
   -- "Reading that text gives the same words", and their count, wherever there is room for them.
   pub reads-back : (count bytes : ℕ) (rows lent words : List ℕ) → ((i : ℕ) → getD rows i 0 < 2 ^ 32) → writeOf count rows lent .answer ≡ Written bytes
       → count * rowWords ≤ length words
       → readOf (take bytes (writeOf count rows lent .text)) words
       ≡ reading.outcome (Read count) (take (count * rowWords) rows ++ drop (count * rowWords) words)
   -- An accepted text is written wherever there is room for it.
-  pub writes : (text words lent : List ℕ) (count : ℕ) → readOf text words .answer ≡ Read count → 36 + 45 * count ≤ length lent
-      → writeOf count (readOf text words .rows) lent .answer ≡ Written (36 + 45 * count)
+  pub writes : (text words lent : List ℕ) (count : ℕ) → readOf text words .answer ≡ Read count → 36 + count * 45 ≤ length lent
+      → writeOf count (readOf text words .rows) lent .answer ≡ Written (36 + count * 45)
   -- "Two accepted texts become equal bytes exactly when their rows are equal."
   pub equal-bytes : (a b tidy-a tidy-b : List ℕ) → Tidied a tidy-a → Tidied b tidy-b
       → (tidy-a ≡ tidy-b → rowsIn a ≡ rowsIn b) × (rowsIn a ≡ rowsIn b → tidy-a ≡ tidy-b)
