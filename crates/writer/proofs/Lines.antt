@@ -12,8 +12,7 @@ use Rattle.text.specs.Text.{bytes, lf, space, joined, lineOf, textOf, fieldOf}
 use Rattle.text.proofs.LowerDigits.{field-long}
 use Rattle.values.specs.Inner.{fieldBytes}
 use Rattle.reader.specs.Reading.{scoreTable}
-use Rattle.writer.specs.Writing.{names, rowLines, scoreText}
-use Rattle.writer.specs.Inner.{namesBytes, rowBytes, textBytes}
+use Rattle.writer.specs.Writing.{namesBytes, rowBytes, textBytes, names, rowLines, scoreText}
 
 pub then-long : (word after : ℕ) → length (fieldOf word ++ after ∷ []) ≡ fieldBytes
 then-long word after = rw (length-append, field-long word)

@@ -14,8 +14,7 @@ use Rattle.score.specs.Limits.{limitRefusal}
 use Rattle.score.proofs.RowsRight.{RowsRight, rows-right}
 use Rattle.text.specs.Text.{lineOf, textOf}
 use Rattle.writer.specs.declared.WriteAnswer.the-variants.{Written, Refused}
-use Rattle.writer.specs.Inner.{namesBytes, textBytes}
-use Rattle.writer.specs.Writing.{names, rowLines, scoreText, writeRefusal, outcome, writeOf}
+use Rattle.writer.specs.Writing.{namesBytes, textBytes, names, rowLines, scoreText, writeRefusal, outcome, writeOf}
 use Rattle.writer.proofs.Lines.{score-text, names-long, text-long}
 
 -- What passes: a count with its row words, rows within their limits, and room for the text.

@@ -27,9 +27,8 @@ use Rattle.reader.proofs.Accepted as accepting
 use Rattle.reader.proofs.Storing.{counted}
 use Rattle.reader.proofs.Settling.{settle-stored}
 use Rattle.writer.specs.declared.WriteAnswer.the-variants.{Written, Refused}
-use Rattle.writer.specs.Writing.{names, rowLines, scoreText, writeRefusal, outcome, writeOf, Outcome}
+use Rattle.writer.specs.Writing.{textBytes, names, rowLines, scoreText, writeRefusal, outcome, writeOf, Outcome}
 use Rattle.writer.specs.Tidy.{rowsIn, Tidied, Tidy, TidyWriter}
-use Rattle.writer.specs.Inner.{textBytes}
 use Rattle.writer.proofs.Lines.{text-long}
 use Rattle.writer.proofs.Refusing.{Writable, passes, writable, write-refused, write-done}
 use Rattle.writer.proofs.Fits.{text-fits}

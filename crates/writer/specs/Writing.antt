@@ -1,5 +1,5 @@
 -- Document 02, "A tidy writer": the text of a score, the refusals in their order, and what a call leaves.
-use Prim.Native.Nat.{ℕ, zero, suc}
+use Prim.Native.Nat.{ℕ, zero, suc, _+_, _*_}
 use mathlib.Core.Bool.{cond}
 use mathlib.Core.List.{List, [], _∷_, _++_, map}
 use lib.ListN.{length, take, drop}
@@ -28,6 +28,16 @@ rowLines (suc count) rows = map fieldOf (take rowWords rows) ∷ rowLines count 
 -- The text of a score.
 unfoldable pub scoreText : ℕ → List ℕ → List ℕ
 scoreText count rows = textOf (names ∷ rowLines count rows)
+
+-- The bytes of the line of names, of a row's line, and of the text of so many rows.
+abbrev pub namesBytes : ℕ
+namesBytes = 36
+
+abbrev pub rowBytes : ℕ
+rowBytes = 45
+
+abbrev pub textBytes : ℕ → ℕ
+textBytes count = namesBytes + count * rowBytes
 
 -- ---- what a call refuses
 

@@ -16,13 +16,12 @@ use text::word::put_word;
 use values::FIELD;
 ghost use mathlib.Core.Path.{_≡_};
 ghost use mathlib.Core.List.{[], _∷_, _++_, map};
-ghost use Prim.Native.Nat.{_+_, _*_, _≤_, _<_};
+ghost use Prim.Native.Nat.{_*_, _≤_, _<_};
 ghost use lib.ListN.{length};
 ghost use Rattle.score.specs.Rows.{rowWords, mostRows};
 ghost use Rattle.text.specs.Text.{lineOf, textOf, fieldOf};
 ghost use Rattle.values.specs.Inner.{fieldBytes};
-ghost use Rattle.writer.specs.Writing.{names, rowLines, writeRefusal, outcome, writeOf};
-ghost use Rattle.writer.specs.Inner.{namesBytes, rowBytes, textBytes};
+ghost use Rattle.writer.specs.Writing.{names, rowLines, namesBytes, rowBytes, textBytes, writeRefusal, outcome, writeOf};
 
 // What writing a score gives.
 pub enum WriteAnswer {

@@ -7,8 +7,8 @@ use borrow.Author.Needs.{needs}
 use lib.ListN.{length, take, drop, length-drop}
 use Rattle.score.specs.Rows.{rowWords}
 use Rattle.text.specs.Text.{lineOf, fieldOf}
-use Rattle.writer.specs.Inner.{rowBytes}
 use Rattle.lists.proofs.Filling.{Filled, fill-goes-on, fill-ends}
+use Rattle.writer.specs.Writing.{rowBytes}
 use Rattle.writer.proofs.Lines.{rowsFrom, rows-more, rows-none, rows-all, row-long}
 use Rattle.writer.proofs.put_rows.Statement.{statement}
 use Rattle.writer.proofs.put_rows.Tie as tie
