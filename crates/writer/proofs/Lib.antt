@@ -5,3 +5,4 @@ pub mod ReadBack
 pub mod Fits
 pub mod AsItStood
 pub mod Tidying
+pub mod Examples

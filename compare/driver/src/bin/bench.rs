@@ -19,7 +19,8 @@ use driver::original;
 use driver::random::Random;
 use model::score::{NAMES, text_length, tidy_text};
 use wohketa_retake::{
-    BANK, Instrument, KEPT_WORDS, MAP, Refusal, Report, Row, Setup, Take, edit, insert, read_score, remove, render, sys,
+    BANK, Instrument, KEPT_WORDS, MAP, Refusal, Report, Row, Setup, Take, edit, insert, read_score, remove, render,
+    write_score,
 };
 
 const INSTRUMENTS: std::ops::RangeInclusive<u32> = 0..=3;
@@ -153,23 +154,6 @@ impl<'a> Bench<'a> {
         let mut text = vec![0; text_length(ROWS)];
         self.measure("write", |_| timed(|| write_score(rows, ROWS, &mut text)));
         assert!(text == tidy_text(rows).as_bytes(), "a different text");
-    }
-}
-
-/// The library's writer.
-fn write_score(rows: &[u32], count: usize, text: &mut [u8]) -> u32 {
-    let (mut first, mut second) = (0, 0);
-    // SAFETY: each pointer goes with its slice's length, and nothing else refers to what is written.
-    unsafe {
-        sys::retake_write_score(
-            rows.as_ptr(),
-            rows.len(),
-            count as u64,
-            text.as_mut_ptr(),
-            text.len(),
-            &mut first,
-            &mut second,
-        )
     }
 }
 
