@@ -8,6 +8,7 @@ use borrow.Author.Tests.{eq-eqb, ne-eqb, eqb-true, lt-ltb, le-ltb, ltb-false}
 use lib.Dec.{eqb, ltb}
 use lib.ListN.{length, take, drop}
 use lib.Seq.{take-at, drop-at, drop-drop}
+use Rattle.score.specs.declared.refusal.Refusal.{Refusal}
 use Rattle.score.specs.Numbers.{refusal, accepted, rowsNumber, paperNumber}
 use Rattle.score.specs.Rows.{mostRows, wrongRows}
 use Rattle.score.specs.Limits.{limitRefusal}
@@ -16,6 +17,9 @@ use Rattle.text.specs.Text.{lineOf, textOf}
 use Rattle.writer.specs.declared.WriteAnswer.the-variants.{Written, Refused}
 use Rattle.writer.specs.Writing.{namesBytes, textBytes, names, rowLines, scoreText, writeRefusal, outcome, writeOf}
 use Rattle.writer.proofs.Lines.{score-text, names-long, text-long}
+
+pub number-of : (r s : Refusal) → r ≡ s → r .number ≡ 0 → s .number ≡ 0
+number-of r s e n = ap (λ (q : Refusal). q .number) (sym e) ∙ n
 
 -- What passes: a count with its row words, rows within their limits, and room for the text.
 pub record Writable (count : ℕ) (rows lent : List ℕ) : Type 0 where

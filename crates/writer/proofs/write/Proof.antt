@@ -1,8 +1,8 @@
 -- `write` refuses and changes nothing, or puts the line of names and then those of the rows.
-use mathlib.Core.Path.{sym, ap, _∙_}
+use mathlib.Core.Path.{ap, _∙_}
 use Rattle.writer.specs.declared.WriteAnswer.the-variants.{Refused}
 use Rattle.writer.specs.Writing.{outcome}
-use Rattle.writer.proofs.Refusing.{writable, write-refused, both-put}
+use Rattle.writer.proofs.Refusing.{number-of, writable, write-refused, both-put}
 use borrow.Author.Needs.{needs}
 use Rattle.writer.proofs.write.Statement.{statement}
 use Rattle.writer.proofs.write.Tie as tie
@@ -23,7 +23,7 @@ returns c =
 text-bytes-requires : tie.Need-text-bytes-requires
 text-bytes-requires c κs =
     let a = c .before .before .before .before .before .before .args in
-    writable (a .count) (a .rows .now) (a .text .now) (ap (λ r. r .number) (sym (c .before .before .write-refusal .ensures)) ∙ c .if1 .left) .counted .count-most
+    writable (a .count) (a .rows .now) (a .text .now) (number-of _ _ (c .before .before .write-refusal .ensures) (c .if1 .left)) .counted .count-most
 
 sub-put-names : tie.Need-sub-put-names
 sub-put-names c = search needs
@@ -35,8 +35,7 @@ part-put-names-end : tie.Need-part-put-names-end
 part-put-names-end c =
     let one = c .before in
     let a = one .before .before .before .before .before .before .args in
-    let w = writable (a .count) (a .rows .now) (a .text .now) (ap (λ r. r .number) (sym (one .before .before .write-refusal .ensures)) ∙ one .if1 .left) in
-    let room = w .room in
+    let room = writable (a .count) (a .rows .now) (a .text .now) (number-of _ _ (one .before .before .write-refusal .ensures) (one .if1 .left)) .room in
     search needs
 
 put-names-requires : tie.Need-put-names-requires
@@ -52,15 +51,14 @@ part-put-rows-end : tie.Need-part-put-rows-end
 part-put-rows-end c =
     let one = c .before .before .before .before .before in
     let a = one .before .before .before .before .before .before .args in
-    let w = writable (a .count) (a .rows .now) (a .text .now) (ap (λ r. r .number) (sym (one .before .before .write-refusal .ensures)) ∙ one .if1 .left) in
-    let room = w .room in
+    let room = writable (a .count) (a .rows .now) (a .text .now) (number-of _ _ (one .before .before .write-refusal .ensures) (one .if1 .left)) .room in
     search needs
 
 put-rows-requires : tie.Need-put-rows-requires
 put-rows-requires c κs =
     let one = c .before .before .before .before .before .before in
     let a = one .before .before .before .before .before .before .args in
-    let w = writable (a .count) (a .rows .now) (a .text .now) (ap (λ r. r .number) (sym (one .before .before .write-refusal .ensures)) ∙ one .if1 .left) in
+    let w = writable (a .count) (a .rows .now) (a .text .now) (number-of _ _ (one .before .before .write-refusal .ensures) (one .if1 .left)) in
     let room = w .room in
     (w .counted .rows-room, search needs)
 
@@ -73,7 +71,7 @@ returns-2 c =
     let one = names .before .before .before in
     let a = one .before .before .before .before .before .before .args in
     both-put (a .count) (a .rows .now) (a .text .now) (names .put-names .last .0) (c .before .before .put-rows .last .1 .1 .0) (names .before .before .text-bytes .result)
-    (ap (λ r. r .number) (sym (one .before .before .write-refusal .ensures)) ∙ one .if1 .left)
+    (number-of _ _ (one .before .before .write-refusal .ensures) (one .if1 .left))
     (names .put-names .ensures)
     (c .before .before .put-rows .ensures)
     (names .before .before .text-bytes .ensures)

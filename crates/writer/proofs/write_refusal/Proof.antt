@@ -2,7 +2,7 @@
 use mathlib.Core.Path.{sym, ap, _∙_}
 use native.Mathlib.Omega.{arith}
 use borrow.Author.Needs.{needs}
-use Rattle.writer.proofs.Refusing.{not-counted, right, not-within, no-room, passes}
+use Rattle.writer.proofs.Refusing.{number-of, not-counted, right, not-within, no-room, passes}
 use Rattle.writer.proofs.write_refusal.Statement.{statement}
 use Rattle.writer.proofs.write_refusal.Tie as tie
 
@@ -40,7 +40,7 @@ returns-3 c =
     let one = two .before .before .before in
     let a = one .before .before .before .before .args in
     no-room (a .count) (a .rows .now) (a .text .now) (sym (one .before .wrong-rows .ensures) ∙ one .if1 .left)
-    (ap (λ r. r .number) (sym (two .before .before .limit-refusal .ensures)) ∙ two .if2 .left)
+    (number-of _ _ (two .before .before .limit-refusal .ensures) (two .if2 .left))
     (omega (arith, c .if3 .taken, c .before .text-bytes .ensures))
 
 accepted-requires : tie.Need-accepted-requires
@@ -53,7 +53,7 @@ returns-4 c =
     let a = one .before .before .before .before .args in
     c .accepted .ensures
     ∙ passes (a .count) (a .rows .now) (a .text .now) (sym (one .before .wrong-rows .ensures) ∙ one .if1 .left)
-    (ap (λ r. r .number) (sym (two .before .before .limit-refusal .ensures)) ∙ two .if2 .left)
+    (number-of _ _ (two .before .before .limit-refusal .ensures) (two .if2 .left))
     (omega (arith, c .before .if3 .left, c .before .before .text-bytes .ensures))
 
 pub write-refusal-spec : {M : Type 1} → statement M
