@@ -1,4 +1,4 @@
-// Texts and numbers as the program `retake` reads and writes them: decimal digits, and words and samples as bytes, low byte first.
+// Texts and numbers as the program `retake` and the writer of scores put them: decimal digits, and words and samples as bytes, low byte first.
 ghost use mathlib.Core.Path.{_≡_};
 ghost use Prim.Native.Nat.{_+_, _*_, _≤_, _<_};
 ghost use lib.ListN.{length};

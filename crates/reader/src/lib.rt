@@ -1,4 +1,4 @@
-// Reading a text of rows: one pass tests it, and only a text that passes is written.
+// Reading a text of rows: one pass tests it, and only the rows of a text that passes are stored.
 use names::MOST_NAMES;
 use names::Shape;
 use names::Source;

@@ -44,6 +44,8 @@ mapLengthOf instrument = cond (eqb instrument mapInstrument) mapLength 0
 abbrev pub wrongMap : ℕ → ℕ → Bool
 wrongMap instrument map = not (eqb map (mapLengthOf instrument))
 
+-- 6 is score · Rows · `wrongRows`, which the writer tests too.
+
 -- 7: "now means too short instead of unequal": "out or aux not rows times frames, or kept not 13 times rows"
 abbrev pub shortTake : ℕ → ℕ → ℕ → ℕ → ℕ → Bool
 shortTake n frames out aux kept = ltb out (n * frames) || (ltb aux (n * frames) || ltb kept (n * keptCount))

@@ -1,4 +1,4 @@
--- What the C functions return and leave: the number, what is written to `first` and `second`, and the lent words, by the definitions of
+-- What the C functions return and leave: the number, what is written to `first` and `second`, and the lent words and bytes, by the definitions of
 -- reading, of writing and of the calls over a score and a take.
 use Prim.Native.Nat.{ℕ}
 use mathlib.Core.List.{List, [], _∷_}

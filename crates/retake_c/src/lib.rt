@@ -1,6 +1,6 @@
 // The C functions of the static library, declared in include/retake.h. Each returns 0 or the number of its refusal and writes its values to
-// `first` and `second`: the row count and 0 (reader), the byte count and 0 (writer), the rows rendered and `held` (rendering, edit, insertion, removal), the place and 0 (a
-// refusal). The score and its take stand at the start of the lent words; `count` says how many rows it has.
+// `first` and `second`: the row count and 0 (reader), the byte count and 0 (writer), the rows rendered and `held` (rendering, edit, insertion,
+// removal), the place and 0 (a refusal). The score and its take stand at the start of the lent words; `count` says how many rows it has.
 ghost use mathlib.Core.Path.{_≡_};
 ghost use mathlib.Core.List.{_∷_, []};
 ghost use Rattle.score.specs.Numbers.{refused};

@@ -1,4 +1,4 @@
--- Document 01, "Score text": lines, fields and words, over the bytes of a text.
+-- Document 01, "Score text", and document 02, "A tidy writer": lines, fields and words, over the bytes of a text, as they are read and written.
 use Prim.Native.Nat.{ℕ, zero, suc, _+_, _-_, _*_, _/_, _%_}
 use Prim.Native.Char.{code}
 use Prim.Native.String.{String, [] as end, _∷_ as _then_}
@@ -73,7 +73,7 @@ abbrev pub restOf : List Line → List Line
 restOf [] = []
 restOf (line ∷ lines) = lines
 
--- A line of some fields as it is written: "One space between, LF after every line"
+-- A line of some fields as it is written: "One space between", "LF (byte 10) after every line"
 abbrev pub lineOf : List (List ℕ) → List ℕ
 lineOf fields = joined space fields ++ lf ∷ []
 

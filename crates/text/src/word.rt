@@ -1,4 +1,4 @@
-// Words as a text has them: eight hexadecimal digits, in either letter case.
+// Words as a text has them: eight hexadecimal digits, read in either letter case and written in lower case.
 ghost use mathlib.Core.Path.{_≡_};
 ghost use mathlib.Core.Bool.{true};
 ghost use Prim.Native.Nat.{_+_, _≤_, _<_};

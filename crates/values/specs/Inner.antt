@@ -12,7 +12,7 @@ use Rattle.names.specs.Sources.{eachReadable}
 use Rattle.names.specs.Inner.{mostNames, rowSources}
 use Rattle.values.specs.Lines.{holdsWords}
 
--- A word and the byte after it.
+-- How many bytes a word and the byte after it are.
 abbrev pub fieldBytes : ℕ
 fieldBytes = suc wordDigits
 

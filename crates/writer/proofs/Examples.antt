@@ -12,7 +12,7 @@ use Rattle.reader.specs.Reading.{scoreTable}
 use Rattle.writer.specs.declared.WriteAnswer.the-variants.{Written, Refused}
 use Rattle.writer.specs.Writing.{names, rowLines, scoreText, writeRefusal, outcome, writeOf}
 
--- a row of every digit, with -0 in it; a second one that no limit lets through
+-- a row of every digit, with -0 in it; a second one whose restart is outside its limit
 abbrev rows : List ℕ
 rows = 0x42689abc ∷ 0x3def0123 ∷ 0x80000000 ∷ 0x3f456789 ∷ 1 ∷ 0 ∷ 0 ∷ 0 ∷ 0 ∷ 2 ∷ []
 

@@ -1,6 +1,6 @@
 -- What each test of the writer says of its refusal, and what is known of a score that passes them.
 use mathlib.Core.Path.{_≡_, refl, sym, ap, _∙_}
-use mathlib.Core.Bool.{Bool, true, false, cond, false≢true}
+use mathlib.Core.Bool.{Bool, true, false, not, cond, false≢true}
 use mathlib.Core.List.{List, _++_, append-assoc}
 use Prim.Native.Nat.{ℕ, _+_, _-_, _≤_, _<_}
 use native.Mathlib.Omega.{arith}
@@ -58,7 +58,7 @@ module _ (count : ℕ) (rows lent : List ℕ) where
   writable e = go wrong (eqb (limitRefusal count rows .number) 0) (ltb (length lent) (length (scoreText count rows))) refl refl refl e
     where
       go : (w l p : Bool) → wrong ≡ w → eqb (limitRefusal count rows .number) 0 ≡ l → ltb (length lent) (length (scoreText count rows)) ≡ p
-          → cond w (refusal rowsNumber 0) (cond l (cond p (refusal paperNumber 0) accepted) (limitRefusal count rows)) .number ≡ 0
+          → cond w (refusal rowsNumber 0) (cond (not l) (limitRefusal count rows) (cond p (refusal paperNumber 0) accepted)) .number ≡ 0
           → Writable count rows lent
       go true l p f g h e = absurd (omega arith)
       go false true true f g h e = absurd (omega arith)

@@ -20,7 +20,7 @@ use Rattle.reader.specs.Reading as reading
 use Rattle.lists.proofs.Cases.{both}
 use Rattle.lists.proofs.Places.{drop-of-take}
 use Rattle.score.proofs.FirstBad.{none-refused}
-use Rattle.text.proofs.Joining.{written, eachEnded, fieldsOn, text-of-lines}
+use Rattle.text.proofs.Joining.{eachEnded, fieldsOn, text-of-lines}
 use Rattle.text.proofs.LowerDigits.{field-no-capital, eachLower, linesLower, no-capital-text}
 use Rattle.reader.proofs.Accepted.{Settled, settled, accepted-passes}
 use Rattle.reader.proofs.Accepted as accepting
@@ -137,9 +137,6 @@ module _ (text tidy : List ℕ) (t : Tidied text tidy) where
   pub same-rows : rowsIn tidy ≡ rowsIn text
   same-rows = ap rowsIn tidy-is ∙ text-rows n (rowsIn text) (omega (arith, rows-are)) fits ∙ take-all (n * rowWords) (rowsIn text) (omega (arith, rows-are))
 
-  pub lines-tidied : linesOf tidy ≡ written names ∷ map written (rowLines n (rowsIn text))
-  lines-tidied = ap linesOf tidy-is ∙ text-lines n (rowsIn text)
-
 -- "exactly when their rows are equal"
 same-count : (text other tidy-text tidy-other : List ℕ) (t : Tidied text tidy-text) (u : Tidied other tidy-other) → rowsIn text ≡ rowsIn other → t .count ≡ u .count
 same-count text other a b t u e = omega (arith, rows-are text a t, rows-are other b u, ap length e)
@@ -164,12 +161,13 @@ rows-lower (suc count) rows = rw (words-lower (take rowWords rows)) (rows-lower 
     words-lower [] = refl
     words-lower (w ∷ row) = rw (field-no-capital w) (words-lower row)
 
-tidies : (text tidy : List ℕ) → Tidied text tidy → Tidy tidy
+tidies : (count bytes : ℕ) (rows lent : List ℕ) → writeOf count rows lent .answer ≡ Written bytes → Tidy (take bytes (writeOf count rows lent .text))
 unfolding scoreText names scoreTable noCapital
-tidies text tidy t =
+tidies count bytes rows lent e =
+    let w = wrote count rows lent bytes e in
     record {
-      in-order = rw (lines-tidied text tidy t) names-fields;
-      lower-case = ap noCapital (tidy-is text tidy t) ∙ no-capital-text (names ∷ rowLines (t .count) (rowsIn text)) ∙ rows-lower (t .count) (rowsIn text);
+      in-order = rw (w .is, text-lines count rows) names-fields;
+      lower-case = ap noCapital (w .is) ∙ no-capital-text (names ∷ rowLines count rows) ∙ rows-lower count rows;
     }
 
 -- ---- a tidy text is written as it was read

@@ -12,11 +12,11 @@ use Rattle.reader.specs.Reading as reading
 use Rattle.writer.specs.declared.WriteAnswer.the-variants.{Written}
 use Rattle.writer.specs.Writing.{names, scoreText, textBytes, writeOf}
 
--- The rows of a text, as it is read.
+-- The rows of a text, as they are read.
 abbrev pub rowsIn : List ℕ → List ℕ
 rowsIn text = textRows scoreTable (linesOf text)
 
--- A text was read as a score, into lent words, and what was read was written, into lent bytes: as many of them as the writer says are `tidy`.
+-- A text was read as a score into lent words, and what was read was written into lent bytes; the first of these, as many as the writer says, are `tidy`.
 pub record Tidied (text tidy : List ℕ) : Type 0 where
   pub words : List ℕ
   pub lent : List ℕ
@@ -46,6 +46,7 @@ pub record TidyWriter : Type 0 where
   -- "Two accepted texts become equal bytes exactly when their rows are equal."
   pub equal-bytes : (a b tidy-a tidy-b : List ℕ) → Tidied a tidy-a → Tidied b tidy-b
       → (tidy-a ≡ tidy-b → rowsIn a ≡ rowsIn b) × (rowsIn a ≡ rowsIn b → tidy-a ≡ tidy-b)
-  -- What is written is tidy, and a tidy text is written as it was read.
-  pub tidies : (text tidy : List ℕ) → Tidied text tidy → Tidy tidy
+  -- What is written is tidy.
+  pub tidies : (count bytes : ℕ) (rows lent : List ℕ) → writeOf count rows lent .answer ≡ Written bytes → Tidy (take bytes (writeOf count rows lent .text))
+  -- A tidy text is written as it was read.
   pub unchanged : (text tidy : List ℕ) → Tidy text → Tidied text tidy → tidy ≡ text

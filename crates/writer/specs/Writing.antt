@@ -1,6 +1,6 @@
 -- Document 02, "A tidy writer": the text of a score, the refusals in their order, and what a call leaves.
 use Prim.Native.Nat.{ℕ, zero, suc, _+_, _*_}
-use mathlib.Core.Bool.{cond}
+use mathlib.Core.Bool.{not, cond}
 use mathlib.Core.List.{List, [], _∷_, _++_, map}
 use lib.ListN.{length, take, drop}
 use lib.Dec.{ltb, eqb}
@@ -46,9 +46,8 @@ unfoldable pub writeRefusal : ℕ → List ℕ → List ℕ → Refusal
 writeRefusal count rows lent =
     let limit = limitRefusal count rows in
     cond (wrongRows 1 mostRows count (length rows)) (refusal rowsNumber 0)
-    (cond (eqb (limit .number) 0)
-    (cond (ltb (length lent) (length (scoreText count rows))) (refusal paperNumber 0) accepted)
-    limit)
+    (cond (not (eqb (limit .number) 0)) limit
+    (cond (ltb (length lent) (length (scoreText count rows))) (refusal paperNumber 0) accepted))
 
 -- ---- what a call leaves
 
