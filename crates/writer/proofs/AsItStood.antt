@@ -19,7 +19,6 @@ use Rattle.text.proofs.Joining.{isEnded, eachEnded, fieldsOn}
 use Rattle.text.proofs.LowerDigits.{field-of-word, eachLower, linesLower}
 use Rattle.values.proofs.Values.{value}
 use Rattle.reader.proofs.Accepted.{line-passes}
-use Rattle.reader.proofs.Accepted as accepting
 use Rattle.writer.specs.Writing.{rowLines}
 use Rattle.writer.proofs.ReadBack.{columns, row-by-fields}
 
