@@ -1,9 +1,9 @@
-//! Document 01 and document 02's third voice (N1), rows put in and taken out (N2) and tidy writer (N4) in
-//! plain Rust, frame by frame, written for being read and not for speed.
+//! Document 01 and document 02's third voice (N1), rows put in and taken out (N2), tidy writer (N4) and kinds
+//! of holds (N5) in plain Rust, frame by frame, written for being read and not for speed.
 //!
-//! It is the judge wherever the original has no answer: holds, kept words, edits, insertions, removals,
-//! refusals, the score text, read and written, and the program. Elsewhere the comparison holds it to the
-//! original, bit for bit.
+//! It is the judge wherever the original has no answer: holds and their kinds, kept words, edits, insertions,
+//! removals, refusals, the score text, read and written, and the program. Elsewhere the comparison holds it to
+//! the original, bit for bit.
 //! Only the published tables (sine, pitch ratios) are taken from the original's files.
 
 pub mod floats;
@@ -24,6 +24,8 @@ pub const ROWS: usize = 4096;
 pub const FRAMES: u32 = 128;
 /// Words kept after each row.
 pub const KEPT_WORDS: usize = 13;
+/// Kinds of holds.
+pub const KINDS: usize = 5;
 /// Samples of a wave in the bank: a period of 128, and its first four again.
 pub const WAVE: usize = 132;
 /// Length of the lent bank: 192 waves of 132.
@@ -33,12 +35,43 @@ pub const MAP: usize = 4_096;
 /// The lowest and the highest rate in Hz.
 pub const RATES: std::ops::RangeInclusive<u32> = 32_000..=192_000;
 
+/// How often each kind of position was held. A frame of the wavetable voice or of the plain oscillator counts
+/// once in each kind that it holds, a reading of the terrain voice in its own.
+#[derive(Debug, Clone, Copy, Default, PartialEq, Eq)]
+pub struct Counts {
+    pub phase: u64,
+    /// x or y of the wavetable voice; the plain oscillator's waveform.
+    pub wave_position: u64,
+    /// z of the wavetable voice.
+    pub level: u64,
+    pub map: u64,
+    pub bank: u64,
+}
+
+impl Counts {
+    /// The counts in the order in which a call writes them.
+    pub fn numbers(&self) -> [u64; KINDS] {
+        [self.phase, self.wave_position, self.level, self.map, self.bank]
+    }
+
+    pub fn of_numbers(numbers: [u64; KINDS]) -> Self {
+        let [phase, wave_position, level, map, bank] = numbers;
+        Self { phase, wave_position, level, map, bank }
+    }
+
+    pub fn add(&mut self, other: &Counts) {
+        let (own, other) = (self.numbers(), other.numbers());
+        *self = Self::of_numbers(std::array::from_fn(|kind| own[kind] + other[kind]));
+    }
+}
+
 /// The result of a call.
 #[derive(Debug, Clone, Copy, PartialEq, Eq)]
 pub enum Answer {
-    /// (row count, 0) of the reader; (bytes, 0) of the writer; (rows rendered, `held` of these rows) of the
-    /// other calls.
+    /// (row count, 0) of the reader; (bytes, 0) of the writer.
     Done(u64, u64),
+    /// Of the other calls: rows rendered, and `held` of these rows and its kinds.
+    Rendered(u64, u64, Counts),
     /// Number and place.
     Refused(u32, u64),
 }

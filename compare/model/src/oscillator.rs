@@ -66,8 +66,7 @@ impl Oscillator {
             let (sample, holds) = self.frame(setup.bank, steps);
             // Out starts at zero, and `render` adds to it: so no sample is -0.
             block.push(0.0 + sample, 0.0);
-            block.held += u64::from(holds.any_counted());
-            block.holds.add(&holds);
+            block.count_frame(holds);
         }
         block
     }

@@ -60,7 +60,7 @@ pub fn run(score: &[u8], edits: &[u8], bank: &[u8]) -> Run {
         Err(Answer::Refused(number, place)) => {
             return Run { printed: refusal_line(number, place).into_bytes(), samples: None };
         }
-        Err(Answer::Done(..)) => unreachable!(),
+        Err(_) => unreachable!(),
     };
     let setup = Setup { instrument: 0, rate: 48_000, frames: 24, bank: &bank, map: &[] };
     let count = rows.len() / ROW_WORDS;
@@ -71,8 +71,9 @@ pub fn run(score: &[u8], edits: &[u8], bank: &[u8]) -> Run {
     for [note, timbre, morph, harmonics, restart, row] in edits {
         let edit = Change::Edit(u64::from(row), [note, timbre, morph, harmonics, restart]);
         printed += &match change(&setup, &mut rows, count as u64, &edit, &mut take) {
-            Answer::Done(rendered, held) => format!("{row} {rendered} {held}\n"),
+            Answer::Rendered(rendered, held, _) => format!("{row} {rendered} {held}\n"),
             Answer::Refused(number, place) => refusal_line(number, place),
+            Answer::Done(..) => unreachable!(),
         };
     }
     let bytes = |words: &[u32]| words.iter().flat_map(|w| w.to_le_bytes()).collect();

@@ -1,10 +1,10 @@
 //! "Rows, states, retakes" and "Calls and their numbers", with document 02's "Rows put in and taken out"
-//! (N2): fresh rendering, whole rendering, edit, insertion and removal, and what demand 3 says of these
-//! three.
+//! (N2) and "Which kind of hold" (N5): fresh rendering, whole rendering, edit, insertion and removal, and
+//! what demand 3 says of these three.
 
 use crate::score::{beyond, countable, has_rows};
 use crate::voice::{Block, Voice};
-use crate::{Answer, BANK, FRAMES, KEPT_WORDS, MAP, RATES, ROW_WORDS, Setup, Take, room};
+use crate::{Answer, BANK, Counts, FRAMES, KEPT_WORDS, MAP, RATES, ROW_WORDS, Setup, Take, room};
 
 /// One row of a fresh rendering.
 #[derive(Debug, Clone, PartialEq, Eq)]
@@ -136,27 +136,55 @@ fn put(take: &mut Take, frames: u32, k: usize, row: &Row) {
     take.kept[k * KEPT_WORDS..][..KEPT_WORDS].copy_from_slice(&row.kept);
 }
 
+/// The answer of an accepted call that rendered just these rows.
+pub fn report(rendered: &[Row]) -> Answer {
+    let mut counts = Counts::default();
+    rendered.iter().for_each(|row| counts.add(&row.block.counts));
+    Answer::Rendered(rendered.len() as u64, rendered.iter().map(|row| row.block.held).sum(), counts)
+}
+
+/// The answer of a call that rendered these rows, or was refused.
+pub fn answer(rendered: &Result<Vec<Row>, Answer>) -> Answer {
+    rendered.as_ref().map_or_else(|refusal| *refusal, |rows| report(rows))
+}
+
 /// Whole rendering.
 pub fn render(setup: &Setup, rows: &[u32], count: u64, take: &mut Take) -> Answer {
+    answer(&render_rows(setup, rows, count, take))
+}
+
+/// Edit, insertion or removal, on any take.
+pub fn change(setup: &Setup, rows: &mut [u32], count: u64, change: &Change, take: &mut Take) -> Answer {
+    answer(&change_rows(setup, rows, count, change, take))
+}
+
+/// Whole rendering: the rows that it renders, or its refusal.
+pub fn render_rows(setup: &Setup, rows: &[u32], count: u64, take: &mut Take) -> Result<Vec<Row>, Answer> {
     if let Some(refusal) = refusal(setup, rows, count, None, take) {
-        return refusal;
+        return Err(refusal);
     }
     let rendered = fresh(setup, &rows[..count as usize * ROW_WORDS]);
     for (k, row) in rendered.iter().enumerate() {
         put(take, setup.frames, k, row);
     }
-    Answer::Done(rendered.len() as u64, rendered.iter().map(|r| r.block.held).sum())
+    Ok(rendered)
 }
 
-/// Edit, insertion or removal, on any take.
-pub fn change(setup: &Setup, rows: &mut [u32], count: u64, change: &Change, take: &mut Take) -> Answer {
+/// Edit, insertion or removal: the rows that it renders, or its refusal.
+pub fn change_rows(
+    setup: &Setup,
+    rows: &mut [u32],
+    count: u64,
+    change: &Change,
+    take: &mut Take,
+) -> Result<Vec<Row>, Answer> {
     if let Some(refusal) = refusal(setup, rows, count, Some(change), take) {
-        return refusal;
+        return Err(refusal);
     }
     let score = &rows[..count as usize * ROW_WORDS];
     let resulting = change.of(score);
     if resulting == score {
-        return Answer::Done(0, 0);
+        return Ok(Vec::new());
     }
     let stood = take.kept.clone();
     rows[..resulting.len()].copy_from_slice(&resulting);
@@ -167,15 +195,15 @@ pub fn change(setup: &Setup, rows: &mut [u32], count: u64, change: &Change, take
         let same = |from| state_before(setup, &take.kept, k) == state_before(setup, &stood, from);
         k * ROW_WORDS == resulting.len() || change.origin(k).is_some_and(|from| restarts(&resulting, k) || same(from))
     };
-    let first = change.position() as usize;
-    let (mut k, mut held) = (first, 0);
+    let mut k = change.position() as usize;
+    let mut rendered = Vec::new();
     while !stops(take, k) {
-        let rendered = render_row(setup, &resulting, k, state_before(setup, &take.kept, k));
-        put(take, setup.frames, k, &rendered);
-        held += rendered.block.held;
+        let row = render_row(setup, &resulting, k, state_before(setup, &take.kept, k));
+        put(take, setup.frames, k, &row);
+        rendered.push(row);
         k += 1;
     }
-    Answer::Done((k - first) as u64, held)
+    Ok(rendered)
 }
 
 /// Moves the blocks and kept words of the rows behind the change with them. Places past the new count keep
@@ -190,7 +218,7 @@ fn shift(take: &mut Take, frames: u32, count: usize, change: &Change) {
 }
 
 /// What demand 3 says of a change between the fresh renderings of the score before and after it: the
-/// rows that it renders, and their `held` in the second. `score` is the one after it.
+/// rows that it renders, and their `held` and its kinds in the second. `score` is the one after it.
 pub fn demand_3(setup: &Setup, score: &[u32], before: &[Row], after: &[Row], change: &Change) -> Answer {
     let fresh = Voice::fresh(setup).kept();
     let states = |rows: &[Row]| -> Vec<_> { std::iter::once(fresh).chain(rows.iter().map(|r| r.kept)).collect() };
@@ -198,5 +226,5 @@ pub fn demand_3(setup: &Setup, score: &[u32], before: &[Row], after: &[Row], cha
     let stops = |j: usize, from: usize| j == after.len() || restarts(score, j) || states[j] == before[from];
     let k = change.position() as usize;
     let j = (k..=after.len()).find(|j| change.origin(*j).is_some_and(|from| stops(*j, from))).unwrap_or(after.len());
-    Answer::Done((j - k) as u64, after[k..j].iter().map(|r| r.block.held).sum())
+    report(&after[k..j])
 }

@@ -49,25 +49,26 @@ impl Terrain {
         let terrain_step = increment(self.terrain_idx, target, setup.frames);
 
         let mut block = Block::default();
+        let mut holds = Holds::default();
         for points in path.chunks(OVERSAMPLING as usize) {
             self.offset += offset_step;
             self.terrain_idx += terrain_step;
             let layer = part(self.terrain_idx, layer_top);
-            block.holds.layer += u64::from(layer.held);
+            holds.layer += u64::from(layer.held);
 
             let mut out_s = 0.0;
             let mut aux_s = 0.0;
             for &(px, y) in points {
                 let x = px * (1.0 - self.offset.abs()) + self.offset;
-                let z0 = height(setup, x, y, layer.whole, &mut block.holds);
-                let z1 = height(setup, x, y, layer.whole + 1, &mut block.holds);
+                let z0 = height(setup, x, y, layer.whole, &mut holds);
+                let z1 = height(setup, x, y, layer.whole + 1, &mut holds);
                 let z = z0 + (z1 - z0) * layer.fraction;
                 out_s += z;
                 aux_s += y + z;
             }
             block.push(0.5 * out_s, sine(1.0 + 0.5 * 0.5 * aux_s));
         }
-        block.held = block.holds.map + block.holds.bank;
+        block.count_readings(holds);
         block
     }
 

@@ -4,7 +4,7 @@ use crate::floats::word;
 use crate::oscillator::Oscillator;
 use crate::terrain::Terrain;
 use crate::wavetable::Wavetable;
-use crate::{KEPT_WORDS, Setup};
+use crate::{Counts, KEPT_WORDS, Setup};
 
 /// A row's floats.
 #[derive(Debug, Clone, Copy)]
@@ -22,7 +22,7 @@ impl Parameters {
     }
 }
 
-/// How often each kind of position was held in a block. `layer` is not part of `held`.
+/// How often each position was held in a block or a frame, for the comparison. `layer` is not part of `held`.
 #[derive(Debug, Clone, Copy, Default, PartialEq, Eq)]
 pub struct Holds {
     pub phase: u64,
@@ -33,15 +33,14 @@ pub struct Holds {
     pub map: u64,
     pub bank: u64,
     pub layer: u64,
+    /// Frames that held both x and y, and frames that held several kinds.
+    pub x_and_y: u64,
+    pub several: u64,
 }
 
 impl Holds {
-    pub fn any_counted(&self) -> bool {
-        self.phase + self.x + self.y + self.z + self.waveform + self.map + self.bank > 0
-    }
-
     pub fn any(&self) -> bool {
-        self.any_counted() || self.layer > 0
+        self.phase + self.x + self.y + self.z + self.waveform + self.map + self.bank + self.layer > 0
     }
 
     pub fn add(&mut self, other: &Holds) {
@@ -53,15 +52,18 @@ impl Holds {
         self.map += other.map;
         self.bank += other.bank;
         self.layer += other.layer;
+        self.x_and_y += other.x_and_y;
+        self.several += other.several;
     }
 }
 
-/// What a row's block leaves: words of out and aux, `held`, and of which kind the holds were.
+/// What a row's block leaves: words of out and aux, `held`, its kinds, and which positions these were.
 #[derive(Debug, Clone, Default, PartialEq, Eq)]
 pub struct Block {
     pub out: Vec<u32>,
     pub aux: Vec<u32>,
     pub held: u64,
+    pub counts: Counts,
     pub holds: Holds,
 }
 
@@ -69,6 +71,24 @@ impl Block {
     pub fn push(&mut self, out: f32, aux: f32) {
         self.out.push(word(out));
         self.aux.push(word(aux));
+    }
+
+    /// Counts a frame of the wavetable voice or of the plain oscillator, each of whose positions is held or
+    /// not (1 or 0): once in `held`, and once in each kind that it holds. x and y are one kind.
+    pub fn count_frame(&mut self, holds: Holds) {
+        let wave_position = holds.x | holds.y | holds.waveform;
+        let counts = Counts { phase: holds.phase, wave_position, level: holds.z, ..Counts::default() };
+        let kinds: u64 = counts.numbers().iter().sum();
+        self.held += u64::from(kinds > 0);
+        self.counts.add(&counts);
+        self.holds.add(&Holds { x_and_y: holds.x & holds.y, several: u64::from(kinds > 1), ..holds });
+    }
+
+    /// Counts the readings of a block of the terrain voice, each of which holds one kind or none.
+    pub fn count_readings(&mut self, holds: Holds) {
+        self.held = holds.map + holds.bank;
+        self.counts = Counts { map: holds.map, bank: holds.bank, ..Counts::default() };
+        self.holds = holds;
     }
 }
 

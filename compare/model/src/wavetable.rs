@@ -68,8 +68,7 @@ impl Wavetable {
         for _ in 0..setup.frames {
             let (sample, holds) = self.frame(setup.bank, steps, f0_step, lp_coefficient);
             block.push(sample, whole_i32(sample * 32.0) / 32.0);
-            block.held += u64::from(holds.any_counted());
-            block.holds.add(&holds);
+            block.count_frame(holds);
         }
         block
     }
