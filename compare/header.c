@@ -1,5 +1,5 @@
 /* Tries include/retake.h: NULL with length 0, every refusal through the structs, buffers longer than the score needs, rows put in
- * and taken out, texts written.
+ * and taken out, each kind of hold, texts written.
  * `compare/run crate` builds it as C99, C11 and C++ with the address and undefined behaviour sanitizers. */
 #include <stdio.h>
 #include <stdlib.h>
@@ -49,8 +49,19 @@ static int filled(const uint32_t *words, size_t from, size_t to) {
     return 1;
 }
 
+static int same_counts(retake_counts counts, const uint64_t *numbers) {
+    return counts.phase == numbers[0] && counts.wave_position == numbers[1] && counts.level == numbers[2]
+        && counts.map == numbers[3] && counts.bank == numbers[4];
+}
+
+static const uint64_t zeros[RETAKE_KINDS] = {0, 0, 0, 0, 0};
+
+static int nothing_held(retake_report report) {
+    return report.held == 0 && same_counts(report.counts, zeros);
+}
+
 static int refused(retake_report report, uint32_t number, uint64_t place) {
-    return report.refusal == number && report.place == place && report.rows == 0 && report.held == 0 && report.bytes == 0;
+    return report.refusal == number && report.place == place && report.rows == 0 && report.bytes == 0 && nothing_held(report);
 }
 
 static int done(retake_report report, uint64_t rendered) {
@@ -86,40 +97,40 @@ static retake_row other_row(void) {
 
 /* The library's functions with NULL and 0 for one buffer after another. */
 static void nulls(void) {
-    uint64_t first = 7, second = 7;
+    uint64_t first = 7, second = 7, counts[RETAKE_KINDS] = {7, 7, 7, 7, 7};
     CHECK(retake_read_score(NULL, 0, rows, 25, &first, &second) == RETAKE_REFUSED_NAMES && first == 0 && second == 0);
     CHECK(retake_read_score((const uint8_t *)text, sizeof text - 1, NULL, 0, &first, &second) == RETAKE_REFUSED_SPACE);
     CHECK(retake_read_score((const uint8_t *)text, sizeof text - 1, rows, 25, &first, &second) == RETAKE_DONE && first == 3);
     CHECK(retake_write_score(NULL, 0, 3, (uint8_t *)written, 171, &first, &second) == RETAKE_REFUSED_ROWS && first == 0 && second == 0);
     CHECK(retake_write_score(rows, 15, 3, NULL, 0, &first, &second) == RETAKE_REFUSED_PAPER && first == 0 && second == 0);
     CHECK(retake_write_score(rows, 15, 3, (uint8_t *)written, 171, &first, &second) == RETAKE_DONE && first == 171 && second == 0);
-    CHECK(retake_render(0, 48000, 4, NULL, 0, NULL, 0, rows, 15, 3, out, 12, aux, 12, kept, 39, &first, &second) == RETAKE_REFUSED_BANK);
-    CHECK(retake_render(2, 48000, 4, bank, 25344, NULL, 0, rows, 15, 3, out, 12, aux, 12, kept, 39, &first, &second) == RETAKE_REFUSED_MAP);
-    CHECK(retake_render(0, 48000, 4, bank, 25344, NULL, 0, NULL, 0, 3, out, 12, aux, 12, kept, 39, &first, &second) == RETAKE_REFUSED_ROWS);
-    CHECK(retake_render(0, 48000, 4, bank, 25344, NULL, 0, rows, 15, 3, NULL, 0, aux, 12, kept, 39, &first, &second) == RETAKE_REFUSED_TAKE);
-    CHECK(retake_render(0, 48000, 4, bank, 25344, NULL, 0, rows, 15, 3, out, 12, NULL, 0, kept, 39, &first, &second) == RETAKE_REFUSED_TAKE);
-    CHECK(retake_render(0, 48000, 4, bank, 25344, NULL, 0, rows, 15, 3, out, 12, aux, 12, NULL, 0, &first, &second) == RETAKE_REFUSED_TAKE);
-    CHECK(retake_render(3, 48000, 4, bank, 25344, map, 4096, rows, 15, 3, out, 12, aux, 12, kept, 39, &first, &second) == RETAKE_REFUSED_MAP);
-    CHECK(retake_render(3, 0, 0, NULL, 0, NULL, 0, NULL, 0, 0, NULL, 0, NULL, 0, NULL, 0, &first, &second) == RETAKE_REFUSED_RATE);
-    CHECK(retake_render(4, 0, 0, NULL, 0, NULL, 0, NULL, 0, 0, NULL, 0, NULL, 0, NULL, 0, &first, &second) == RETAKE_REFUSED_INSTRUMENT);
-    CHECK(retake_render(0, 48000, 4, bank, 25344, NULL, 0, rows, 15, 3, out, 12, aux, 12, kept, 39, &first, &second) == RETAKE_DONE && first == 3);
-    CHECK(retake_edit(0, 48000, 4, bank, 25344, NULL, 0, NULL, 0, 3, 0, 0, 0, 0, 0, 0, out, 12, aux, 12, kept, 39, &first, &second) == RETAKE_REFUSED_ROWS);
-    CHECK(retake_edit(1, 48000, 4, bank, 25344, NULL, 0, rows, 15, 3, 0, 0, 0, 0, 0, 0, NULL, 0, NULL, 0, NULL, 0, &first, &second) == RETAKE_REFUSED_TAKE);
-    CHECK(retake_insert(1, 48000, 4, bank, 25344, NULL, 0, NULL, 0, 3, 0, 0, 0, 0, 0, 0, out, 12, aux, 12, kept, 39, &first, &second) == RETAKE_REFUSED_ROWS);
-    CHECK(retake_insert(3, 48000, 4, bank, 25344, NULL, 0, rows, 15, 3, 0, 0, 0, 0, 0, 0, NULL, 0, NULL, 0, NULL, 0, &first, &second) == RETAKE_REFUSED_TAKE);
-    CHECK(retake_insert(3, 48000, 4, bank, 25344, NULL, 0, rows, 15, 3, 0, 0, 0, 0, 0, 0, out, 12, aux, 12, kept, 39, &first, &second) == RETAKE_REFUSED_FULL);
-    CHECK(retake_remove(0, 48000, 4, bank, 25344, NULL, 0, NULL, 0, 3, 0, out, 12, aux, 12, kept, 39, &first, &second) == RETAKE_REFUSED_ROWS);
-    CHECK(retake_remove(1, 48000, 4, bank, 25344, NULL, 0, rows, 15, 3, 0, NULL, 0, NULL, 0, NULL, 0, &first, &second) == RETAKE_REFUSED_TAKE);
-    CHECK(first == 0 && second == 0);
+    CHECK(retake_render(0, 48000, 4, NULL, 0, NULL, 0, rows, 15, 3, out, 12, aux, 12, kept, 39, &first, &second, counts) == RETAKE_REFUSED_BANK);
+    CHECK(retake_render(2, 48000, 4, bank, 25344, NULL, 0, rows, 15, 3, out, 12, aux, 12, kept, 39, &first, &second, counts) == RETAKE_REFUSED_MAP);
+    CHECK(retake_render(0, 48000, 4, bank, 25344, NULL, 0, NULL, 0, 3, out, 12, aux, 12, kept, 39, &first, &second, counts) == RETAKE_REFUSED_ROWS);
+    CHECK(retake_render(0, 48000, 4, bank, 25344, NULL, 0, rows, 15, 3, NULL, 0, aux, 12, kept, 39, &first, &second, counts) == RETAKE_REFUSED_TAKE);
+    CHECK(retake_render(0, 48000, 4, bank, 25344, NULL, 0, rows, 15, 3, out, 12, NULL, 0, kept, 39, &first, &second, counts) == RETAKE_REFUSED_TAKE);
+    CHECK(retake_render(0, 48000, 4, bank, 25344, NULL, 0, rows, 15, 3, out, 12, aux, 12, NULL, 0, &first, &second, counts) == RETAKE_REFUSED_TAKE);
+    CHECK(retake_render(3, 48000, 4, bank, 25344, map, 4096, rows, 15, 3, out, 12, aux, 12, kept, 39, &first, &second, counts) == RETAKE_REFUSED_MAP);
+    CHECK(retake_render(3, 0, 0, NULL, 0, NULL, 0, NULL, 0, 0, NULL, 0, NULL, 0, NULL, 0, &first, &second, counts) == RETAKE_REFUSED_RATE);
+    CHECK(retake_render(4, 0, 0, NULL, 0, NULL, 0, NULL, 0, 0, NULL, 0, NULL, 0, NULL, 0, &first, &second, counts) == RETAKE_REFUSED_INSTRUMENT);
+    CHECK(retake_render(0, 48000, 4, bank, 25344, NULL, 0, rows, 15, 3, out, 12, aux, 12, kept, 39, &first, &second, counts) == RETAKE_DONE && first == 3);
+    CHECK(retake_edit(0, 48000, 4, bank, 25344, NULL, 0, NULL, 0, 3, 0, 0, 0, 0, 0, 0, out, 12, aux, 12, kept, 39, &first, &second, counts) == RETAKE_REFUSED_ROWS);
+    CHECK(retake_edit(1, 48000, 4, bank, 25344, NULL, 0, rows, 15, 3, 0, 0, 0, 0, 0, 0, NULL, 0, NULL, 0, NULL, 0, &first, &second, counts) == RETAKE_REFUSED_TAKE);
+    CHECK(retake_insert(1, 48000, 4, bank, 25344, NULL, 0, NULL, 0, 3, 0, 0, 0, 0, 0, 0, out, 12, aux, 12, kept, 39, &first, &second, counts) == RETAKE_REFUSED_ROWS);
+    CHECK(retake_insert(3, 48000, 4, bank, 25344, NULL, 0, rows, 15, 3, 0, 0, 0, 0, 0, 0, NULL, 0, NULL, 0, NULL, 0, &first, &second, counts) == RETAKE_REFUSED_TAKE);
+    CHECK(retake_insert(3, 48000, 4, bank, 25344, NULL, 0, rows, 15, 3, 0, 0, 0, 0, 0, 0, out, 12, aux, 12, kept, 39, &first, &second, counts) == RETAKE_REFUSED_FULL);
+    CHECK(retake_remove(0, 48000, 4, bank, 25344, NULL, 0, NULL, 0, 3, 0, out, 12, aux, 12, kept, 39, &first, &second, counts) == RETAKE_REFUSED_ROWS);
+    CHECK(retake_remove(1, 48000, 4, bank, 25344, NULL, 0, rows, 15, 3, 0, NULL, 0, NULL, 0, NULL, 0, &first, &second, counts) == RETAKE_REFUSED_TAKE);
+    CHECK(first == 0 && second == 0 && memcmp(counts, zeros, sizeof counts) == 0);
     retake_floats(NULL, NULL, 0);
 }
 
 /* Is the take that of a fresh rendering, made in buffers of just its length? */
 static int as_fresh(const retake_settings *s, const retake_score *score) {
     const size_t count = (size_t)score->count, samples = count * FRAMES, states = count * RETAKE_KEPT_WORDS;
-    uint64_t first, second;
+    uint64_t first, second, counts[RETAKE_KINDS];
     CHECK(retake_render(s->instrument, s->rate, FRAMES, bank, RETAKE_BANK_LENGTH, s->map, s->map_len, rows, count * RETAKE_ROW_WORDS, count,
-                        fresh_out, samples, fresh_aux, samples, fresh_kept, states, &first, &second) == RETAKE_DONE && first == count);
+                        fresh_out, samples, fresh_aux, samples, fresh_kept, states, &first, &second, counts) == RETAKE_DONE && first == count);
     return memcmp(fresh_out, out, samples * sizeof *out) == 0 && memcmp(fresh_aux, aux, samples * sizeof *aux) == 0
         && memcmp(fresh_kept, kept, states * sizeof *kept) == 0;
 }
@@ -139,7 +150,7 @@ static retake_score text_rendered(const retake_settings *settings, const retake_
     fill(aux, SAMPLES);
     fill(kept, ROOM * RETAKE_KEPT_WORDS);
     report = retake_read_text(&score, text, sizeof text - 1);
-    CHECK(done(report, ROWS) && report.held == 0 && score.count == ROWS);
+    CHECK(done(report, ROWS) && nothing_held(report) && score.count == ROWS);
     CHECK(done(retake_render_score(settings, &score, take), ROWS));
     CHECK(!filled(out, 0, ROWS * FRAMES) && filled_from(ROWS));
     return score;
@@ -218,6 +229,66 @@ static void spliced(uint32_t instrument) {
     }
     CHECK(refused(retake_remove_row(&settings, &score, &take, 0), RETAKE_REFUSED_ROWS, 0));
     CHECK(score.count == 1 && as_fresh(&settings, &score));
+}
+
+/* Kept words of row 0 that no rendering leaves, as floats, and what rows 1 and 2 then hold. */
+static const struct {
+    uint32_t instrument;
+    float state[RETAKE_KEPT_WORDS];
+    uint64_t held, counts[RETAKE_KINDS];
+} states[] = {
+    /* Phase, then x and y, then z. */
+    {RETAKE_WAVETABLE, {3.5f, 0, 0, 0, 0, 0, 0, 0, 0, 0, 0, 0, 0}, 2, {2, 0, 0, 0, 0}},
+    {RETAKE_WAVETABLE, {3.5f, 0, 0, 0, 1000, 1000, 0, 0, 0, 0, 0, 0, 0}, 8, {2, 8, 0, 0, 0}},
+    {RETAKE_WAVETABLE, {3.5f, 0, 0, 0, 0, 0, 1000, 0, 0, 0, 0, 0, 0}, 8, {2, 0, 8, 0, 0}},
+    /* Offset, and the terrain's number. */
+    {RETAKE_TERRAIN, {1, 0, 0, 0, 10000, 6, 0, 0, 0, 0, 0, 0, 0}, 12, {0, 0, 0, 0, 12}},
+    {RETAKE_TERRAIN_WITH_MAP, {1, 0, 0, 0, 10000, 6, 0, 0, 0, 0, 0, 0, 0}, 12, {0, 0, 0, 2, 10}},
+    /* Phase and waveform. */
+    {RETAKE_OSCILLATOR, {6.5f, 0, 0, 200, 0, 0, 0, 0, 0, 0, 0, 0, 0}, 5, {5, 3, 0, 0, 0}},
+};
+
+/* Has the call rendered two rows and held what is known of the state? */
+static int held_as(retake_report report, size_t i) {
+    return done(report, 2) && report.held == states[i].held && same_counts(report.counts, states[i].counts);
+}
+
+static void keep(size_t i) {
+    size_t k;
+    for (k = 0; k < RETAKE_KEPT_WORDS; k++) kept[k] = retake_word(states[i].state[k]);
+}
+
+/* Each kind of hold in an edit, an insertion and a removal, whose second row is always the same. */
+static void kinds(void) {
+    const retake_row row = {50.0f, 0.5f, 0.75f, 1.0f, 0};
+    const retake_take take = take_of();
+    size_t i;
+    for (i = 0; i < sizeof states / sizeof *states; i++) {
+        const retake_settings settings = settings_of(states[i].instrument);
+        retake_score score = text_rendered(&settings, &take);
+        uint64_t first, second, lent[RETAKE_KINDS + 2] = {7, 7, 7, 7, 7, 7, 7};
+        keep(i);
+        CHECK(held_as(retake_edit_row(&settings, &score, &take, 1, row), i));
+        CHECK(nothing_held(retake_edit_row(&settings, &score, &take, 1, row)));
+        CHECK(nothing_held(retake_render_score(&settings, &score, &take)));
+        CHECK(done(retake_insert_row(&settings, &score, &take, 1, other_row()), 3) && score.count == 4);
+        keep(i);
+        CHECK(held_as(retake_remove_row(&settings, &score, &take, 1), i));
+        score = text_rendered(&settings, &take);
+        score.count = 2;
+        keep(i);
+        CHECK(held_as(retake_insert_row(&settings, &score, &take, 1, row), i));
+
+        /* The function itself writes five numbers and no more. */
+        score = text_rendered(&settings, &take);
+        keep(i);
+        CHECK(retake_edit(settings.instrument, settings.rate, FRAMES, bank, RETAKE_BANK_LENGTH, settings.map, settings.map_len,
+                          rows, ROWS * RETAKE_ROW_WORDS, ROWS, 1, retake_word(row.note), retake_word(row.timbre), retake_word(row.morph),
+                          retake_word(row.harmonics), row.restart, out, SAMPLES, aux, SAMPLES, kept, ROOM * RETAKE_KEPT_WORDS,
+                          &first, &second, lent + 1) == RETAKE_DONE);
+        CHECK(first == 2 && second == states[i].held && memcmp(lent + 1, states[i].counts, sizeof states[i].counts) == 0);
+        CHECK(lent[0] == 7 && lent[RETAKE_KINDS + 1] == 7);
+    }
 }
 
 /* Do rendering, edit, insertion and removal all refuse with this number, and leave the count? */
@@ -327,7 +398,7 @@ static int tidy(const retake_score *score, size_t lent) {
     retake_report report;
     wipe();
     report = retake_write_text(score, written, lent);
-    return report.refusal == RETAKE_DONE && report.place == 0 && report.rows == 0 && report.held == 0 && report.bytes == sizeof text - 1
+    return report.refusal == RETAKE_DONE && report.place == 0 && report.rows == 0 && nothing_held(report) && report.bytes == sizeof text - 1
         && memcmp(written, text, sizeof text - 1) == 0 && wiped_from(sizeof text - 1);
 }
 
@@ -385,6 +456,7 @@ int main(void) {
         accepted(instrument);
         spliced(instrument);
     }
+    kinds();
     refusals();
     full();
     writing();

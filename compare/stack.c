@@ -13,34 +13,34 @@ static uint8_t map[4096];
 static uint32_t rows[ROOM * 5], out[ROOM * FRAMES], aux[ROOM * FRAMES], kept[ROOM * 13];
 static uint8_t written[RETAKE_TEXT_LENGTH(ROWS)];
 static uint32_t instrument;
-static uint64_t first, second;
+static uint64_t first, second, counts[RETAKE_KINDS];
 static uint32_t answer;
 
 static void *nothing(void *unused) { return unused; }
 
 static void *render(void *unused) {
     answer = retake_render(instrument, 48000, FRAMES, bank, 25344, map, instrument == 2 ? 4096 : 0, rows, ROOM * 5, ROWS,
-                           out, ROOM * FRAMES, aux, ROOM * FRAMES, kept, ROOM * 13, &first, &second);
+                           out, ROOM * FRAMES, aux, ROOM * FRAMES, kept, ROOM * 13, &first, &second, counts);
     return unused;
 }
 
 static void *edit(void *unused) {
     answer = retake_edit(instrument, 48000, FRAMES, bank, 25344, map, instrument == 2 ? 4096 : 0, rows, ROOM * 5, ROWS,
                          0, 0x42700000 - instrument, 0x3f000000, 0x3f000000, 0x3f000000, 0,
-                         out, ROOM * FRAMES, aux, ROOM * FRAMES, kept, ROOM * 13, &first, &second);
+                         out, ROOM * FRAMES, aux, ROOM * FRAMES, kept, ROOM * 13, &first, &second, counts);
     return unused;
 }
 
 static void *insert(void *unused) {
     answer = retake_insert(instrument, 48000, FRAMES, bank, 25344, map, instrument == 2 ? 4096 : 0, rows, ROOM * 5, ROWS,
                            0, 0x42600000, 0x3f400000, 0x3f400000, 0x3f400000, 0,
-                           out, ROOM * FRAMES, aux, ROOM * FRAMES, kept, ROOM * 13, &first, &second);
+                           out, ROOM * FRAMES, aux, ROOM * FRAMES, kept, ROOM * 13, &first, &second, counts);
     return unused;
 }
 
 static void *take_out(void *unused) {
     answer = retake_remove(instrument, 48000, FRAMES, bank, 25344, map, instrument == 2 ? 4096 : 0, rows, ROOM * 5, ROWS + 1, 0,
-                           out, ROOM * FRAMES, aux, ROOM * FRAMES, kept, ROOM * 13, &first, &second);
+                           out, ROOM * FRAMES, aux, ROOM * FRAMES, kept, ROOM * 13, &first, &second, counts);
     return unused;
 }
 

@@ -41,9 +41,9 @@
  * What is lent
  *
  * Every buffer is the caller's, and each length counts elements, not bytes. No two buffers of a call
- * may overlap, and `first` and `second` are two places of their own. The functions keep nothing
- * between calls, allocate nothing, take about 15 KiB of stack and always end; calls that get different
- * buffers may run at the same time.
+ * may overlap, and `first`, `second` and `counts`, which is five numbers, are places of their own. The
+ * functions keep nothing between calls, allocate nothing, take about 15 KiB of stack and always end;
+ * calls that get different buffers may run at the same time.
  *
  * For rows to be put in, lend more than the score needs: a score that may grow to n rows wants n times
  * 5 row words, n times `frames` of out and of aux, and n times 13 of kept. With n = RETAKE_MOST_ROWS
@@ -51,7 +51,7 @@
  *
  * A pointer whose length is 0 may be NULL: nothing is read or written through it, and the answer is
  * that of any buffer of length 0. With another length a pointer must not be NULL and has that many
- * elements, aligned as their type asks. `first` and `second` must not be NULL.
+ * elements, aligned as their type asks. `first`, `second` and `counts` must not be NULL.
  *
  * Samples are lent as words. What C allows: lend an array of uint32_t and read its samples by
  * retake_float or retake_floats (memcpy; no code is left of it), or lend the words of a
@@ -61,8 +61,8 @@
  *
  * Answers
  *
- * Each function returns 0 (RETAKE_DONE), or the number of its refusal. `first` and `second` are
- * results: each call writes both.
+ * Each function returns 0 (RETAKE_DONE), or the number of its refusal. `first`, `second` and the five
+ * `counts` are results: each call writes those that it has.
  *
  *                          success                               refusal
  *                          *first           *second              *first      *second
@@ -73,7 +73,20 @@
  *     retake_insert        rows rendered    held in these rows   place       0
  *     retake_remove        rows rendered    held in these rows   place       0
  *
- * `held` counts how often a position was held at its top. A refused call changes no lent buffer.
+ * `held` counts how often a position was held at its top. `counts` says of which kind, over the same rows;
+ * on a refusal, and where nothing is rendered, it is five zeros.
+ *
+ *     counts[0] phase           wavetable, oscillator: frames that hold the phase
+ *     counts[1] wave position   wavetable: frames that hold x, y or both; oscillator: its waveform
+ *     counts[2] level           wavetable: frames that hold z
+ *     counts[3] map             terrain with map: readings of the map that are held
+ *     counts[4] bank            terrain, with map or without: readings of the bank that are held
+ *
+ * A frame of the wavetable voice or the oscillator counts once in each kind that it holds and once in
+ * `held`, so that no kind is above `held`, nor `held` above their sum. On the terrain voice `held` is the
+ * sum. docs/GUIDE.md says what to turn down for each kind.
+ *
+ * A refused call changes no lent buffer.
  *
  *     number         when                                                     place
  *      1 instrument  above 3                                                  0
@@ -118,12 +131,13 @@ extern "C" {
  * a member to the end of a struct or a function in a minor version; anything else moves the major one,
  * or, while that is 0, the minor one. */
 #define RETAKE_VERSION_MAJOR 0
-#define RETAKE_VERSION_MINOR 4
+#define RETAKE_VERSION_MINOR 5
 #define RETAKE_VERSION_PATCH 0
-#define RETAKE_VERSION "0.4.0"
+#define RETAKE_VERSION "0.5.0"
 
 #define RETAKE_ROW_WORDS 5        /* words of a row */
 #define RETAKE_KEPT_WORDS 13      /* words kept after each row */
+#define RETAKE_KINDS 5            /* kinds of holds that are counted */
 #define RETAKE_MOST_ROWS 4096     /* rows of the longest score */
 #define RETAKE_MOST_FRAMES 128    /* frames of the longest block */
 #define RETAKE_LOWEST_RATE 32000  /* Hz */
@@ -212,8 +226,8 @@ uint32_t retake_write_score(const uint32_t *rows, size_t rows_len,
 /* Renders a score of `count` rows into a take. `bank` is 25,344 samples, 192 waves of 132. `map` is
  * 4,096 bytes, 64 rows of 64, for instrument 2; for the others its length is 0.
  *
- * Success: *first is the number of rows rendered, *second how often a position was held at its top.
- * Refusals: 1 to 7, then 9. */
+ * Success: *first is the number of rows rendered, *second how often a position was held at its top,
+ * `counts` of which kind. Refusals: 1 to 7, then 9. */
 uint32_t retake_render(uint32_t instrument, uint32_t rate, uint32_t frames,
                        const int16_t *bank, size_t bank_len,
                        const uint8_t *map, size_t map_len,
@@ -222,15 +236,15 @@ uint32_t retake_render(uint32_t instrument, uint32_t rate, uint32_t frames,
                        uint32_t *out, size_t out_len,
                        uint32_t *aux, size_t aux_len,
                        uint32_t *kept, size_t kept_len,
-                       uint64_t *first, uint64_t *second);
+                       uint64_t *first, uint64_t *second, uint64_t *counts);
 
 /* Puts five words into row `position` of the score and renders the rows that depend on them: from
  * that row to just before the next row that restarts, or whose state before it stays the same, or to
  * the end. Equal words render nothing. Rows and take are handed over as the call before left them,
  * with the same instrument, rate, frames, bank and map; the take is then that of a fresh rendering.
  *
- * Success: *first is the number of rows rendered, *second how often a position was held in them.
- * Refusals: 1 to 9; 9 looks at the score with the new row put in. */
+ * Success: *first is the number of rows rendered, *second how often a position was held in them, `counts`
+ * of which kind. Refusals: 1 to 9; 9 looks at the score with the new row put in. */
 uint32_t retake_edit(uint32_t instrument, uint32_t rate, uint32_t frames,
                      const int16_t *bank, size_t bank_len,
                      const uint8_t *map, size_t map_len,
@@ -240,7 +254,7 @@ uint32_t retake_edit(uint32_t instrument, uint32_t rate, uint32_t frames,
                      uint32_t *out, size_t out_len,
                      uint32_t *aux, size_t aux_len,
                      uint32_t *kept, size_t kept_len,
-                     uint64_t *first, uint64_t *second);
+                     uint64_t *first, uint64_t *second, uint64_t *counts);
 
 /* Puts a row in at `position` of the score, or behind its last row where `position` is `count`. The rows
  * from there on move up by one place, with their blocks and kept words; each buffer wants room for that.
@@ -250,7 +264,8 @@ uint32_t retake_edit(uint32_t instrument, uint32_t rate, uint32_t frames,
  * for an edit, and the take is then that of a fresh rendering.
  *
  * Success: *first is the number of rows rendered, at least 1, *second how often a position was held in
- * them. Refusals: 1 to 8, 13, 9; a count of 4,096 gives 6, and 9 looks at the score with the row put in. */
+ * them, `counts` of which kind. Refusals: 1 to 8, 13, 9; a count of 4,096 gives 6, and 9 looks at the score
+ * with the row put in. */
 uint32_t retake_insert(uint32_t instrument, uint32_t rate, uint32_t frames,
                        const int16_t *bank, size_t bank_len,
                        const uint8_t *map, size_t map_len,
@@ -260,7 +275,7 @@ uint32_t retake_insert(uint32_t instrument, uint32_t rate, uint32_t frames,
                        uint32_t *out, size_t out_len,
                        uint32_t *aux, size_t aux_len,
                        uint32_t *kept, size_t kept_len,
-                       uint64_t *first, uint64_t *second);
+                       uint64_t *first, uint64_t *second, uint64_t *counts);
 
 /* Takes row `position` out of the score. The rows after it move down by one place, with their blocks and
  * kept words; the last old place keeps its words. The score then has `count` - 1 rows: the next call is
@@ -269,7 +284,8 @@ uint32_t retake_insert(uint32_t instrument, uint32_t rate, uint32_t frames,
  * that of a fresh rendering.
  *
  * Success: *first is the number of rows rendered, perhaps 0, *second how often a position was held in
- * them. Refusals: 1 to 9; a count of 1 gives 6, and 9 looks at the score without the row. */
+ * them, `counts` of which kind. Refusals: 1 to 9; a count of 1 gives 6, and 9 looks at the score without
+ * the row. */
 uint32_t retake_remove(uint32_t instrument, uint32_t rate, uint32_t frames,
                        const int16_t *bank, size_t bank_len,
                        const uint8_t *map, size_t map_len,
@@ -278,7 +294,7 @@ uint32_t retake_remove(uint32_t instrument, uint32_t rate, uint32_t frames,
                        uint32_t *out, size_t out_len,
                        uint32_t *aux, size_t aux_len,
                        uint32_t *kept, size_t kept_len,
-                       uint64_t *first, uint64_t *second);
+                       uint64_t *first, uint64_t *second, uint64_t *counts);
 
 /* ---- Words and floats ---- */
 
@@ -340,16 +356,37 @@ typedef struct retake_row {
     uint32_t restart;
 } retake_row;
 
+/* How often each kind of position was held. */
+typedef struct retake_counts {
+    uint64_t phase;         /* frames that held the phase */
+    uint64_t wave_position; /* frames that held x, y or both; on the oscillator its waveform */
+    uint64_t level;         /* frames that held z */
+    uint64_t map;           /* readings of the map that were held */
+    uint64_t bank;          /* readings of the bank by the terrain voice that were held */
+} retake_counts;
+
 /* A call's answer. */
 typedef struct retake_report {
-    uint32_t refusal; /* an enum retake_refusal; RETAKE_DONE where the call was accepted */
-    uint64_t place;   /* of the refusal, else 0 */
-    uint64_t rows;    /* rows rendered; retake_read_text: rows read; 0 in retake_write_text and on a refusal */
-    uint64_t held;    /* how often a position was held in them; 0 on a refusal */
-    uint64_t bytes;   /* retake_write_text: bytes written; 0 in the others and on a refusal */
+    uint32_t refusal;     /* an enum retake_refusal; RETAKE_DONE where the call was accepted */
+    uint64_t place;       /* of the refusal, else 0 */
+    uint64_t rows;        /* rows rendered; retake_read_text: rows read; 0 in retake_write_text and on a refusal */
+    uint64_t held;        /* how often a position was held in them; 0 on a refusal */
+    uint64_t bytes;       /* retake_write_text: bytes written; 0 in the others and on a refusal */
+    retake_counts counts; /* the same as held, by kind; zeros where held is 0 */
 } retake_report;
 
-/* The report of what a function returned and wrote; on success `first` counts rows. */
+/* The counts that a function wrote. */
+static inline retake_counts retake_counts_of(const uint64_t *numbers) {
+    retake_counts counts;
+    counts.phase = numbers[0];
+    counts.wave_position = numbers[1];
+    counts.level = numbers[2];
+    counts.map = numbers[3];
+    counts.bank = numbers[4];
+    return counts;
+}
+
+/* The report of what a function without counts returned and wrote; on success `first` counts rows. */
 static inline retake_report retake_report_of(uint32_t number, uint64_t first, uint64_t second) {
     retake_report report;
     report.refusal = number;
@@ -357,6 +394,14 @@ static inline retake_report retake_report_of(uint32_t number, uint64_t first, ui
     report.rows = number == RETAKE_DONE ? first : 0;
     report.held = number == RETAKE_DONE ? second : 0;
     report.bytes = 0;
+    memset(&report.counts, 0, sizeof report.counts);
+    return report;
+}
+
+/* The same of a function with counts. */
+static inline retake_report retake_report_with(uint32_t number, uint64_t first, uint64_t second, const uint64_t *counts) {
+    retake_report report = retake_report_of(number, first, second);
+    report.counts = retake_counts_of(counts);
     return report;
 }
 
@@ -395,58 +440,58 @@ static inline retake_report retake_write_text(const retake_score *score, char *t
 /* Renders the whole score into the take. Refusals: as retake_render. */
 static inline retake_report retake_render_score(const retake_settings *settings, const retake_score *score,
                                                 const retake_take *take) {
-    uint64_t first, second;
+    uint64_t first, second, counts[RETAKE_KINDS];
     uint32_t number = retake_render(settings->instrument, settings->rate, settings->frames,
                                     settings->bank, settings->bank_len, settings->map, settings->map_len,
                                     score->rows, score->rows_len, score->count,
                                     take->out, take->out_len, take->aux, take->aux_len, take->kept, take->kept_len,
-                                    &first, &second);
-    return retake_report_of(number, first, second);
+                                    &first, &second, counts);
+    return retake_report_with(number, first, second, counts);
 }
 
 /* Puts other words into a row and renders what depends on them. Settings, score and take are those of
  * the rendering, as the call before left them. Refusals: as retake_edit. */
 static inline retake_report retake_edit_row(const retake_settings *settings, const retake_score *score,
                                             const retake_take *take, uint64_t position, retake_row row) {
-    uint64_t first, second;
+    uint64_t first, second, counts[RETAKE_KINDS];
     uint32_t number = retake_edit(settings->instrument, settings->rate, settings->frames,
                                   settings->bank, settings->bank_len, settings->map, settings->map_len,
                                   score->rows, score->rows_len, score->count, position,
                                   retake_word(row.note), retake_word(row.timbre), retake_word(row.morph),
                                   retake_word(row.harmonics), row.restart,
                                   take->out, take->out_len, take->aux, take->aux_len, take->kept, take->kept_len,
-                                  &first, &second);
-    return retake_report_of(number, first, second);
+                                  &first, &second, counts);
+    return retake_report_with(number, first, second, counts);
 }
 
 /* Puts a row in at a position and renders what depends on it; on success the score's count is one more.
  * Settings, score and take as for retake_edit_row. Refusals: as retake_insert. */
 static inline retake_report retake_insert_row(const retake_settings *settings, retake_score *score,
                                               const retake_take *take, uint64_t position, retake_row row) {
-    uint64_t first, second;
+    uint64_t first, second, counts[RETAKE_KINDS];
     uint32_t number = retake_insert(settings->instrument, settings->rate, settings->frames,
                                     settings->bank, settings->bank_len, settings->map, settings->map_len,
                                     score->rows, score->rows_len, score->count, position,
                                     retake_word(row.note), retake_word(row.timbre), retake_word(row.morph),
                                     retake_word(row.harmonics), row.restart,
                                     take->out, take->out_len, take->aux, take->aux_len, take->kept, take->kept_len,
-                                    &first, &second);
+                                    &first, &second, counts);
     if (number == RETAKE_DONE) score->count++;
-    return retake_report_of(number, first, second);
+    return retake_report_with(number, first, second, counts);
 }
 
 /* Takes a row out and renders what depends on that; on success the score's count is one less. Settings,
  * score and take as for retake_edit_row. Refusals: as retake_remove. */
 static inline retake_report retake_remove_row(const retake_settings *settings, retake_score *score,
                                               const retake_take *take, uint64_t position) {
-    uint64_t first, second;
+    uint64_t first, second, counts[RETAKE_KINDS];
     uint32_t number = retake_remove(settings->instrument, settings->rate, settings->frames,
                                     settings->bank, settings->bank_len, settings->map, settings->map_len,
                                     score->rows, score->rows_len, score->count, position,
                                     take->out, take->out_len, take->aux, take->aux_len, take->kept, take->kept_len,
-                                    &first, &second);
+                                    &first, &second, counts);
     if (number == RETAKE_DONE) score->count--;
-    return retake_report_of(number, first, second);
+    return retake_report_with(number, first, second, counts);
 }
 
 #ifdef __cplusplus
