@@ -2,6 +2,7 @@
 
 use std::cmp::Ordering;
 
+use crate::counts::Counts;
 use crate::refusal::Refusal;
 use crate::row::{Column, Row};
 use crate::{BANK, KEPT_WORDS, MAP, sys};
@@ -83,6 +84,8 @@ pub struct Report {
     pub rows: usize,
     /// How often a position was held at its top in these rows.
     pub held: u64,
+    /// The same by kind.
+    pub counts: Counts,
 }
 
 /// Words as samples: the same 32 bits of each.
@@ -91,7 +94,7 @@ pub fn samples(words: &[u32]) -> &[f32] {
     unsafe { std::slice::from_raw_parts(words.as_ptr().cast(), words.len()) }
 }
 
-/// Runs a C function, whose last two parameters it is handed, and reads its answer.
+/// Runs a C function, whose `first` and `second` it is handed, and reads its answer.
 fn answer(call: impl FnOnce(*mut u64, *mut u64) -> u32) -> Result<(u64, u64), Refusal> {
     let (mut first, mut second) = (0, 0);
     match call(&mut first, &mut second) {
@@ -105,6 +108,7 @@ fn answer(call: impl FnOnce(*mut u64, *mut u64) -> u32) -> Result<(u64, u64), Re
 macro_rules! call {
     ($function:ident, $setup:ident, [$($score:expr),*], $take:ident) => {{
         let map = $setup.instrument.map();
+        let mut counts = [0; Counts::KINDS];
         // SAFETY: as in `read_score`.
         answer(|first, second| unsafe {
             sys::$function(
@@ -124,9 +128,10 @@ macro_rules! call {
                 $take.kept.len(),
                 first,
                 second,
+                counts.as_mut_ptr(),
             )
         })
-        .map(|(rows, held)| Report { rows: rows as usize, held })
+        .map(|(rows, held)| Report { rows: rows as usize, held, counts: Counts::of(counts) })
     }};
 }
 

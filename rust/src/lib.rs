@@ -55,6 +55,7 @@
 #![deny(missing_docs)]
 
 mod calls;
+mod counts;
 mod reel;
 mod refusal;
 mod row;
@@ -64,6 +65,7 @@ pub mod sys;
 pub use calls::{
     Instrument, Report, Setup, Take, edit, insert, read_score, remove, render, samples, text_length, write_score,
 };
+pub use counts::Counts;
 pub use reel::{Block, Edited, Reel};
 pub use refusal::{Reason, Refusal};
 pub use row::{Column, Row};

@@ -4,6 +4,7 @@ use std::fmt;
 use std::ops::Range;
 
 use crate::calls::{self, Instrument, Report, Setup, Take, samples};
+use crate::counts::Counts;
 use crate::refusal::Refusal;
 use crate::row::Row;
 use crate::score::Score;
@@ -76,12 +77,14 @@ pub struct Edited {
     pub rows: Range<usize>,
     /// How often a position was held at its top in these rows.
     pub held: u64,
+    /// The same by kind.
+    pub counts: Counts,
 }
 
 impl Edited {
     /// What a call at this position reports.
     fn at(position: usize, report: Report) -> Edited {
-        Edited { rows: position..position + report.rows, held: report.held }
+        Edited { rows: position..position + report.rows, held: report.held, counts: report.counts }
     }
 }
 

@@ -1,5 +1,5 @@
 //! The library's C functions, as `include/retake.h` explains them: each pointer goes with its length,
-//! no two buffers overlap, and `first` and `second` are written by every call.
+//! no two buffers overlap, and every call writes `first`, `second` and, where it has them, the five `counts`.
 
 unsafe extern "C" {
     /// Reads a score's text into row words.
@@ -43,6 +43,7 @@ unsafe extern "C" {
         kept_len: usize,
         first: *mut u64,
         second: *mut u64,
+        counts: *mut u64,
     ) -> u32;
 
     /// Puts five words into a row and renders what depends on it.
@@ -71,6 +72,7 @@ unsafe extern "C" {
         kept_len: usize,
         first: *mut u64,
         second: *mut u64,
+        counts: *mut u64,
     ) -> u32;
 
     /// Puts a row of five words in at a position, the later rows one place up, and renders what depends on it.
@@ -99,6 +101,7 @@ unsafe extern "C" {
         kept_len: usize,
         first: *mut u64,
         second: *mut u64,
+        counts: *mut u64,
     ) -> u32;
 
     /// Takes a row out, the later rows one place down, and renders what depends on it.
@@ -122,5 +125,6 @@ unsafe extern "C" {
         kept_len: usize,
         first: *mut u64,
         second: *mut u64,
+        counts: *mut u64,
     ) -> u32;
 }

@@ -1,16 +1,16 @@
 //! The library's six C functions (`include/retake.h`) over the model.
 //!
 //! # Safety
-//! Each pointer has as many elements behind it as its length says.
+//! Each pointer has as many elements behind it as its length says, and `counts` has five.
 #![allow(clippy::missing_safety_doc)]
 
 use model::take::{self, Change};
-use model::{Answer, Setup, Take, score};
+use model::{Answer, KINDS, Setup, Take, score};
 use std::slice::{from_raw_parts, from_raw_parts_mut};
 
 unsafe fn give(answer: Answer, first: *mut u64, second: *mut u64) -> u32 {
     let (number, a, b) = match answer {
-        Answer::Done(a, b) => (0, a, b),
+        Answer::Done(a, b) | Answer::Rendered(a, b, _) => (0, a, b),
         Answer::Refused(number, place) => (number, place, 0),
     };
     unsafe {
@@ -18,6 +18,15 @@ unsafe fn give(answer: Answer, first: *mut u64, second: *mut u64) -> u32 {
         *second = b;
     }
     number
+}
+
+/// The same of a call over a take, and its five counts.
+unsafe fn give_with_counts(answer: Answer, first: *mut u64, second: *mut u64, counts: *mut u64) -> u32 {
+    let numbers = if let Answer::Rendered(_, _, counts) = answer { counts.numbers() } else { [0; KINDS] };
+    unsafe {
+        from_raw_parts_mut(counts, KINDS).copy_from_slice(&numbers);
+        give(answer, first, second)
+    }
 }
 
 /// What rendering, edit, insertion and removal are lent.
@@ -100,6 +109,7 @@ pub unsafe extern "C" fn retake_render(
     kept_len: usize,
     first: *mut u64,
     second: *mut u64,
+    counts: *mut u64,
 ) -> u32 {
     unsafe {
         let (bank, map) = (from_raw_parts(bank, bank_len), from_raw_parts(map, map_len));
@@ -110,7 +120,7 @@ pub unsafe extern "C" fn retake_render(
             aux: from_raw_parts_mut(aux, aux_len),
             kept: from_raw_parts_mut(kept, kept_len),
         };
-        give(lent.render(from_raw_parts(rows, rows_len)), first, second)
+        give_with_counts(lent.render(from_raw_parts(rows, rows_len)), first, second, counts)
     }
 }
 
@@ -140,6 +150,7 @@ pub unsafe extern "C" fn retake_edit(
     kept_len: usize,
     first: *mut u64,
     second: *mut u64,
+    counts: *mut u64,
 ) -> u32 {
     unsafe {
         let (bank, map) = (from_raw_parts(bank, bank_len), from_raw_parts(map, map_len));
@@ -150,14 +161,8 @@ pub unsafe extern "C" fn retake_edit(
             aux: from_raw_parts_mut(aux, aux_len),
             kept: from_raw_parts_mut(kept, kept_len),
         };
-        give(
-            lent.change(
-                from_raw_parts_mut(rows, rows_len),
-                Change::Edit(position, [note, timbre, morph, harmonics, restart]),
-            ),
-            first,
-            second,
-        )
+        let change = Change::Edit(position, [note, timbre, morph, harmonics, restart]);
+        give_with_counts(lent.change(from_raw_parts_mut(rows, rows_len), change), first, second, counts)
     }
 }
 
@@ -187,6 +192,7 @@ pub unsafe extern "C" fn retake_insert(
     kept_len: usize,
     first: *mut u64,
     second: *mut u64,
+    counts: *mut u64,
 ) -> u32 {
     unsafe {
         let (bank, map) = (from_raw_parts(bank, bank_len), from_raw_parts(map, map_len));
@@ -197,14 +203,8 @@ pub unsafe extern "C" fn retake_insert(
             aux: from_raw_parts_mut(aux, aux_len),
             kept: from_raw_parts_mut(kept, kept_len),
         };
-        give(
-            lent.change(
-                from_raw_parts_mut(rows, rows_len),
-                Change::Insert(position, [note, timbre, morph, harmonics, restart]),
-            ),
-            first,
-            second,
-        )
+        let change = Change::Insert(position, [note, timbre, morph, harmonics, restart]);
+        give_with_counts(lent.change(from_raw_parts_mut(rows, rows_len), change), first, second, counts)
     }
 }
 
@@ -229,6 +229,7 @@ pub unsafe extern "C" fn retake_remove(
     kept_len: usize,
     first: *mut u64,
     second: *mut u64,
+    counts: *mut u64,
 ) -> u32 {
     unsafe {
         let (bank, map) = (from_raw_parts(bank, bank_len), from_raw_parts(map, map_len));
@@ -239,6 +240,7 @@ pub unsafe extern "C" fn retake_remove(
             aux: from_raw_parts_mut(aux, aux_len),
             kept: from_raw_parts_mut(kept, kept_len),
         };
-        give(lent.change(from_raw_parts_mut(rows, rows_len), Change::Remove(position)), first, second)
+        let answer = lent.change(from_raw_parts_mut(rows, rows_len), Change::Remove(position));
+        give_with_counts(answer, first, second, counts)
     }
 }
