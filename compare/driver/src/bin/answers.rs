@@ -15,16 +15,18 @@
 //!     then for each of 4,096 map bytes (instrument 2): s as before, byte = s / 16777216.
 //!
 //! Printed for each score, all numbers decimal:
-//!     render ROWS HELD OUT AUX KEPT      after the whole rendering
-//!     edit POSITION RENDERED HELD        for each call, in its turn: edit, insert or remove
-//!     take OUT AUX KEPT                  after the last call, where there are calls
+//!     render ROWS HELD KINDS OUT AUX KEPT    after the whole rendering
+//!     edit POSITION RENDERED HELD KINDS      for each call, in its turn: edit, insert or remove
+//!     take OUT AUX KEPT                      after the last call, where there are calls
+//! KINDS are the five counts of HELD's kinds: PHASE WAVE_POSITION LEVEL MAP BANK.
 //! OUT, AUX and KEPT are check numbers of all words of the score's rows: h = 0; for each word:
 //! h = (65599 h + word) mod 4294967291.
 //!
 //! A score in which a position is held, where the original panics, is answered by the model and has a
-//! HELD above 0. All others are answered by the original: samples and kept words are its own, and the
-//! RENDERED of a call follows from its fresh renderings before and after the call. First come the scores
-//! of the two engines, those that hold last; then the plain oscillator's, in the same order.
+//! HELD above 0. All others are answered by the original: samples and kept words are its own, HELD and
+//! KINDS are 0, and the RENDERED of a call follows from its fresh renderings before and after the call.
+//! First come the scores of the two engines, those that hold last; then the plain oscillator's, in the same
+//! order.
 
 use std::collections::BTreeMap;
 use std::fs;
@@ -34,7 +36,7 @@ use driver::cases::{self, Case};
 use driver::random::Random;
 use driver::{changes, original};
 use model::score::{row_within, within};
-use model::take::{Change, Row, demand_3, fresh, restarts};
+use model::take::{Change, Row, demand_3, fresh, report, restarts};
 use model::voice::Block;
 use model::{Answer, BANK, MAP, ROW_WORDS};
 
@@ -83,6 +85,13 @@ fn check_numbers(rows: &[Row]) -> String {
     format!("{out} {aux} {kept}")
 }
 
+/// Rows rendered, `held` and its kinds.
+fn report_numbers(answer: Answer) -> String {
+    let Answer::Rendered(rows, held, counts) = answer else { unreachable!() };
+    let kinds: String = counts.numbers().iter().map(|n| format!(" {n}")).collect();
+    format!("{rows} {held}{kinds}")
+}
+
 /// The fresh rendering by the original, or none where it panics.
 fn by_original(case: &Case) -> Option<Vec<Row>> {
     let rows = original::render(case.setup(), &case.rows);
@@ -106,12 +115,11 @@ fn by_either(case: &Case) -> Option<Vec<Row>> {
 fn printed(entry: &Entry, rendered: Rendered) -> Option<String> {
     let mut case = entry.case.clone();
     let mut before = rendered(&case)?;
-    let held: u64 = before.iter().map(|r| r.block.held).sum();
-    let mut lines = format!("render {} {held} {}\n", case.count(), check_numbers(&before));
+    let mut lines = format!("render {} {}\n", report_numbers(report(&before)), check_numbers(&before));
     for change in &entry.calls {
         let score = change.of(&case.rows);
         let answer = if score == case.rows {
-            Answer::Done(0, 0)
+            report(&[])
         } else {
             case.rows = score;
             let after = rendered(&case)?;
@@ -119,8 +127,7 @@ fn printed(entry: &Entry, rendered: Rendered) -> Option<String> {
             before = after;
             answer
         };
-        let Answer::Done(rows, held) = answer else { unreachable!() };
-        lines += &format!("{} {} {rows} {held}\n", changes::name(change), change.position());
+        lines += &format!("{} {} {}\n", changes::name(change), change.position(), report_numbers(answer));
     }
     if !entry.calls.is_empty() {
         lines += &format!("take {}\n", check_numbers(&before));
