@@ -238,29 +238,31 @@ pub fn junk_word(random: &mut Random) -> u32 {
     }
 }
 
-/// 13 kept words near those that renderings keep, now and then junk.
+/// 13 kept words near those that renderings keep, now and then junk, or positions far past their tops.
 pub fn odd_state(random: &mut Random, instrument: u32) -> [u32; KEPT_WORDS] {
     let wild = random.pick(&[2, 8, 40]);
+    let far = random.pick(&[1.0, 1.0, 1.2, 4.0]);
     std::array::from_fn(|i| {
         if random.once_in(wild) {
             return junk_word(random);
         }
         let x = random.unit();
         let usual = match (instrument, i) {
-            (0, 0) => x,
-            (0, 1..=9) => x * 7.5,
+            (0, 0) => x * far,
+            (0, 1..=9) => x * 7.5 * far,
             (0, 10) => x * 0.2,
             (0, _) => (x - 0.5) * 60_000.0,
-            (3, 0) => x * 2.1,
+            (3, 0) => x * 2.1 * far,
             (3, 1) => x * 0.25,
             (3, 2) => x * 0.05,
-            (3, 3) => x * 64.0,
+            (3, 3) => x * 64.0 * far,
             (3, 4..=6) => (x - 0.5) * 60_000.0,
             (3, _) => 0.0,
             (_, 0 | 1) => x * 3.0 - 1.5,
-            (_, 2 | 3) => x * 1.5,
-            (_, 4) => x * 3.0 - 1.5,
-            (_, 5) => x * 9.0,
+            (_, 2) => x * 1.5,
+            (_, 3) => x * 1.5 * far,
+            (_, 4) => (x * 3.0 - 1.5) * far,
+            (_, 5) => x * 9.0 * far,
             _ => 0.0,
         };
         usual.to_bits()

@@ -1,13 +1,13 @@
 //! The library's calls on any words and lengths, with guards around each lent buffer.
 
 use model::take::Change;
-use model::{Answer, Setup, Take};
+use model::{Answer, Counts, KINDS, Setup, Take};
 use wohketa_retake::sys;
 
 /// How many elements stand before and after a lent buffer that no call may touch.
 const GUARDS: usize = 16;
 
-/// A word or a byte.
+/// A word, a byte or a count.
 trait Element: Copy + PartialEq {
     const GUARD: Self;
 }
@@ -18,6 +18,10 @@ impl Element for u32 {
 
 impl Element for u8 {
     const GUARD: u8 = 0xdb;
+}
+
+impl Element for u64 {
+    const GUARD: u64 = 0xdead_beef_0bad_cafe;
 }
 
 /// A copy of a buffer between guards.
@@ -61,6 +65,21 @@ fn answer(call: impl FnOnce(*mut u64, *mut u64) -> u32) -> Answer {
     }
 }
 
+/// The same for a call over a take, and its five counts, which start as junk between guards.
+fn answer_with_counts(call: impl FnOnce(*mut u64, *mut u64, *mut u64) -> u32) -> Answer {
+    let mut numbers: [u64; KINDS] = std::array::from_fn(|kind| 0x5a5a_1111_2222_3300 + kind as u64);
+    let mut counts = Guarded::of(&numbers);
+    let answer = answer(|first, second| call(first, second, counts.pointer()));
+    counts.give_back(&mut numbers);
+    match answer {
+        Answer::Done(rows, held) => Answer::Rendered(rows, held, Counts::of_numbers(numbers)),
+        refusal => {
+            assert_eq!(numbers, [0; KINDS], "counts of {refusal:?}");
+            refusal
+        }
+    }
+}
+
 pub fn read_score(text: &[u8], rows: &mut [u32]) -> Answer {
     let mut lent = Guarded::of(rows);
     // SAFETY: each pointer goes with its buffer's length.
@@ -86,7 +105,7 @@ pub fn render(setup: &Setup, rows: &[u32], count: u64, take: &mut Take) -> Answe
     let mut aux = Guarded::of(&take.aux);
     let mut kept = Guarded::of(&take.kept);
     // SAFETY: each pointer goes with its buffer's length.
-    let answer = answer(|first, second| unsafe {
+    let answer = answer_with_counts(|first, second, counts| unsafe {
         sys::retake_render(
             setup.instrument,
             setup.rate,
@@ -106,6 +125,7 @@ pub fn render(setup: &Setup, rows: &[u32], count: u64, take: &mut Take) -> Answe
             kept.len(),
             first,
             second,
+            counts,
         )
     });
     out.give_back(&mut take.out);
@@ -121,7 +141,7 @@ pub fn change(setup: &Setup, rows: &mut [u32], count: u64, change: &Change, take
     let mut aux = Guarded::of(&take.aux);
     let mut kept = Guarded::of(&take.kept);
     // SAFETY: each pointer goes with its buffer's length.
-    let answer = answer(|first, second| unsafe {
+    let answer = answer_with_counts(|first, second, counts| unsafe {
         match *change {
             Change::Edit(position, row) | Change::Insert(position, row) => {
                 let edit = matches!(change, Change::Edit(..));
@@ -152,6 +172,7 @@ pub fn change(setup: &Setup, rows: &mut [u32], count: u64, change: &Change, take
                     kept.len(),
                     first,
                     second,
+                    counts,
                 )
             }
             Change::Remove(position) => sys::retake_remove(
@@ -174,6 +195,7 @@ pub fn change(setup: &Setup, rows: &mut [u32], count: u64, change: &Change, take
                 kept.len(),
                 first,
                 second,
+                counts,
             ),
         }
     });

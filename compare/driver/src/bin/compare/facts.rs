@@ -4,8 +4,8 @@ use driver::cases::{self, Case};
 use driver::library;
 use driver::original::Original;
 use driver::random::Random;
-use model::take::Change;
-use model::{Answer, KEPT_WORDS, ROW_WORDS, floats, program, wavetable};
+use model::take::{Change, report};
+use model::{Answer, Counts, KEPT_WORDS, ROW_WORDS, floats, program, wavetable};
 
 use crate::calls::{one_change, rendering};
 use crate::tally::{Tally, same, same_start};
@@ -17,8 +17,15 @@ fn steady(count: usize, row: [u32; ROW_WORDS]) -> Vec<u32> {
     (0..count).flat_map(|_| row).collect()
 }
 
-/// The smallest scores found in whose last row the original panics: instrument, frames, `held`, rows.
-fn smallest_holds() -> [(u32, u32, u64, Vec<u32>); 5] {
+const NO_COUNTS: Counts = Counts { phase: 0, wave_position: 0, level: 0, map: 0, bank: 0 };
+
+/// The answer of a call that renders so many rows and holds nothing.
+fn nothing_held(rows: u64) -> Answer {
+    Answer::Rendered(rows, 0, NO_COUNTS)
+}
+
+/// The smallest scores found in whose last row the original panics: instrument, frames, what is held, rows.
+fn smallest_holds() -> [(u32, u32, Counts, Vec<u32>); 5] {
     const ONE: u32 = 0x3f80_0000;
     const NOTE_120: u32 = 0x42f0_0000;
     let climbing = [NOTE_120, 0, 0, ONE, 0];
@@ -34,12 +41,13 @@ fn smallest_holds() -> [(u32, u32, u64, Vec<u32>); 5] {
         [NOTE_120, ONE, 0x3f00_0000, 0x3f20_0000, 0],
         [0x4248_0000, ONE, ONE, 0x3f40_0000, 0],
     ];
+    let brightening = [[0x4270_0000, 0x3f05_0000, 0, 0, 0], [0x4270_0000, ONE, 0, 0, 0]];
     [
-        (0, 78, 7, steady(54, climbing)),
-        (0, 10, 10, steady(65, climbing)),
-        (2, 1, 1, map.concat()),
-        (1, 2, 1, bank.concat()),
-        (3, 52, 1, [[0x4270_0000, 0x3f05_0000, 0, 0, 0], [0x4270_0000, ONE, 0, 0, 0]].concat()),
+        (0, 78, Counts { level: 7, ..NO_COUNTS }, steady(54, climbing)),
+        (0, 10, Counts { level: 10, ..NO_COUNTS }, steady(65, climbing)),
+        (2, 1, Counts { map: 1, ..NO_COUNTS }, map.concat()),
+        (1, 2, Counts { bank: 1, ..NO_COUNTS }, bank.concat()),
+        (3, 52, Counts { wave_position: 1, ..NO_COUNTS }, brightening.concat()),
     ]
 }
 
@@ -56,15 +64,18 @@ pub fn facts(published: &[i16], random: &mut Random, tally: &mut Tally) {
     // The quantised z reaches 7.
     let case = plain(0, 128, steady(54, [0x42f0_0000, 0, 0, 0x3f80_0000, 0]));
     let rows = model_is_original(&case, tally);
-    let held: Vec<u64> = rows.iter().map(|r| r.block.held).collect();
-    same("held of the last rows", &case, &held[52..], &[0, 49]);
+    let level = Counts { level: 49, ..NO_COUNTS };
+    let [before, last] = [&rows[..53], &rows[53..]].map(report);
+    same("held before and in the last row", &case, [before, last], [nothing_held(53), Answer::Rendered(1, 49, level)]);
     rendering(&case, case.lent(random, 0), tally);
 
-    for (instrument, frames, held, rows) in smallest_holds() {
+    for (instrument, frames, counts, rows) in smallest_holds() {
         let case = Case { rate: 32_000, ..plain(instrument, frames, rows) };
         let rows = model_is_original(&case, tally);
-        let before: u64 = rows[..rows.len() - 1].iter().map(|r| r.block.held).sum();
-        same("held before and in the last row", &case, [before, rows[rows.len() - 1].block.held], [0, held]);
+        let (before, last) = rows.split_at(rows.len() - 1);
+        let held = Answer::Rendered(1, counts.numbers().iter().sum(), counts);
+        let known = [nothing_held(before.len() as u64), held];
+        same("held before and in the last row", &case, [before, last].map(report), known);
         rendering(&case, case.lent(random, 0), tally);
     }
 
@@ -74,6 +85,8 @@ pub fn facts(published: &[i16], random: &mut Random, tally: &mut Tally) {
     let rows = model_is_original(&case, tally);
     let held: Vec<u64> = rows.iter().map(|r| r.block.held).collect();
     same("held of a waveform that stays", &case, &held[..], &[0, 1, 100, 100, 100]);
+    let counts = Counts { wave_position: 301, ..NO_COUNTS };
+    same("held of a waveform that stays", &case, report(&rows), Answer::Rendered(5, 301, counts));
     rendering(&case, case.lent(random, 0), tally);
 
     // On a flat wave the oscillator's sample sinks to -0; out, which starts at zero, then has +0.
@@ -118,7 +131,7 @@ pub fn facts(published: &[i16], random: &mut Random, tally: &mut Tally) {
         library::render(&case.setup(), rows, 9, &mut take);
         let mut rows = rows.clone();
         let answer = library::change(&case.setup(), &mut rows, 9, &Change::Edit(position, row), &mut take);
-        same("an edit that fades at once", &case, answer, Answer::Done(1, 0));
+        same("an edit that fades at once", &case, answer, nothing_held(1));
         case.rows = rows;
         model_is_original(&case, tally);
     }
@@ -129,9 +142,10 @@ pub fn facts(published: &[i16], random: &mut Random, tally: &mut Tally) {
     library::render(&case.setup(), &case.rows, 4096, &mut take);
     let edit = Change::Edit(12, [0x4270_0000, 0x3f00_0000, 0, 0, 0]);
     let answer = library::change(&case.setup(), &mut case.rows.clone(), 4096, &edit, &mut take);
-    same("an edit that never fades", &case, answer, Answer::Done(4084, 0));
+    same("an edit that never fades", &case, answer, nothing_held(4084));
 
     splices(plain, random, tally);
+    kinds(plain, random, tally);
     writings(tally);
 
     // Kept words can stay subnormal.
@@ -152,7 +166,7 @@ pub fn facts(published: &[i16], random: &mut Random, tally: &mut Tally) {
 
 /// Insertions and removals with a known answer.
 fn splices(plain: impl Fn(u32, u32, Vec<u32>) -> Case, random: &mut Random, tally: &mut Tally) {
-    use Answer::{Done, Refused};
+    use Answer::Refused;
     use Change::{Insert, Remove};
     const FRAMES: usize = 24;
     const ONE: [usize; 4] = [ROW_WORDS, FRAMES, FRAMES, KEPT_WORDS];
@@ -164,21 +178,21 @@ fn splices(plain: impl Fn(u32, u32, Vec<u32>) -> Case, random: &mut Random, tall
     for instrument in 0..4 {
         for (rows, spare, change, answer) in [
             // Row 0 begins fresh whatever its word, and its word alone is a stop.
-            (vec![row, row], NONE, Remove(0), Done(1, 0)),
-            (vec![row, start], NONE, Remove(0), Done(0, 0)),
+            (vec![row, row], NONE, Remove(0), nothing_held(1)),
+            (vec![row, start], NONE, Remove(0), nothing_held(0)),
             // The row that was row 0 had the fresh state before it.
-            (vec![row], ONE, Insert(0, row), Done(2, 0)),
-            (vec![start], ONE, Insert(0, row), Done(1, 0)),
+            (vec![row], ONE, Insert(0, row), nothing_held(2)),
+            (vec![start], ONE, Insert(0, row), nothing_held(1)),
             // The same state stands before the row behind.
-            (vec![start, row, row], ONE, Insert(1, start), Done(1, 0)),
-            (vec![start, start, row], NONE, Remove(1), Done(0, 0)),
+            (vec![start, row, row], ONE, Insert(1, start), nothing_held(1)),
+            (vec![start, start, row], NONE, Remove(1), nothing_held(0)),
             // The end.
-            (vec![row, row], ONE, Insert(2, row), Done(1, 0)),
-            (vec![row, row], NONE, Remove(1), Done(0, 0)),
+            (vec![row, row], ONE, Insert(2, row), nothing_held(1)),
+            (vec![row, row], NONE, Remove(1), nothing_held(0)),
             // Too many rows or none come before the position and the room.
-            (most(4_095), ONE, Insert(4_095, row), Done(1, 0)),
+            (most(4_095), ONE, Insert(4_095, row), nothing_held(1)),
             (most(4_096), ONE, Insert(5_000, row), Refused(6, 0)),
-            (most(4_096), NONE, Remove(4_095), Done(0, 0)),
+            (most(4_096), NONE, Remove(4_095), nothing_held(0)),
             (vec![row], NONE, Remove(7), Refused(6, 0)),
             // The position comes before the room, and the room before the limits.
             (vec![row], NONE, Insert(2, row), Refused(8, 2)),
@@ -194,7 +208,7 @@ fn splices(plain: impl Fn(u32, u32, Vec<u32>) -> Case, random: &mut Random, tall
             (vec![row, loud], ONE, Insert(1, row), Refused(9, 2)),
             (vec![row, loud], ONE, Insert(1, loud), Refused(9, 1)),
             (vec![row, row, loud], NONE, Remove(0), Refused(9, 1)),
-            (vec![row, loud, start], NONE, Remove(1), Done(0, 0)),
+            (vec![row, loud, start], NONE, Remove(1), nothing_held(0)),
         ] {
             let case = plain(instrument, FRAMES as u32, rows.concat());
             let mut lent = case.lent_with(random, spare);
@@ -208,7 +222,85 @@ fn splices(plain: impl Fn(u32, u32, Vec<u32>) -> Case, random: &mut Random, tall
         let mut lent = case.lent_with(random, NONE);
         lent.take.kept[..KEPT_WORDS].copy_from_slice(&Original::new(case.setup()).kept());
         let found = one_change(&case, &Remove(0), &mut lent.clone(), &mut lent, tally);
-        same("a removal at the fresh state", &case, found, Done(0, 0));
+        same("a removal at the fresh state", &case, found, nothing_held(0));
+    }
+}
+
+/// A state whose words are zeros but for these floats.
+fn state(floats: &[(usize, f32)]) -> [u32; KEPT_WORDS] {
+    let mut state = [0; KEPT_WORDS];
+    floats.iter().for_each(|(at, x)| state[*at] = x.to_bits());
+    state
+}
+
+/// Edits, insertions and removals that render one row of 24 frames from a known state, and what it holds.
+///
+/// Wavetable: x, y and z go at most a tenth of their way to 0 in a frame, so 1000 stays far above the top; the
+/// phase loses 1 in a frame, but for less than a hundredth. Oscillator: the waveform goes from 130 to 0 in equal
+/// steps, and 65 is the twelfth. Terrain: the offset goes from 10,000 to -0.05 in equal steps, and only the last
+/// lies on the map; with it the layer goes from 6.5 to 7.9999, and 7 comes in the ninth frame.
+fn kinds(plain: impl Fn(u32, u32, Vec<u32>) -> Case, random: &mut Random, tally: &mut Tally) {
+    const FRAMES: u32 = 24;
+    let (phase, x, y, z) = ((0, 5.5), (4, 1000.0), (5, 1000.0), (6, 1000.0));
+    let (waveform, path, offset) = ((3, 130.0), (0, 1.0), (4, 10_000.0));
+    let low = [0x4270_0000, 0, 0, 0, 0];
+    let high = [0x4270_0000, 0, 0x3f00_0000, 0x3f80_0000, 0];
+    for (instrument, row, floats, held, numbers) in [
+        (0, low, &[][..], 0, [0; 5]),
+        (0, low, &[phase], 4, [4, 0, 0, 0, 0]),
+        (0, low, &[x], 24, [0, 24, 0, 0, 0]),
+        (0, low, &[y], 24, [0, 24, 0, 0, 0]),
+        (0, low, &[z], 24, [0, 0, 24, 0, 0]),
+        // x and y are one kind, and a frame counts once in each kind and once in all.
+        (0, low, &[x, y], 24, [0, 24, 0, 0, 0]),
+        (0, low, &[phase, y], 24, [4, 24, 0, 0, 0]),
+        (0, low, &[phase, z], 24, [4, 0, 24, 0, 0]),
+        (0, low, &[x, z], 24, [0, 24, 24, 0, 0]),
+        (0, low, &[phase, x, y, z], 24, [4, 24, 24, 0, 0]),
+        (3, low, &[], 0, [0; 5]),
+        (3, low, &[phase], 4, [4, 0, 0, 0, 0]),
+        (3, low, &[waveform], 12, [0, 12, 0, 0, 0]),
+        (3, low, &[phase, waveform], 12, [4, 12, 0, 0, 0]),
+        // Two points in a frame, each of which reads two layers.
+        (1, high, &[path, offset, (5, 5.5)], 92, [0, 0, 0, 0, 92]),
+        (2, high, &[path, offset, (5, 6.5)], 92, [0, 0, 0, 30, 62]),
+        (2, high, &[path, offset, (5, 7.5)], 92, [0, 0, 0, 46, 46]),
+        // The layer's own number is not counted.
+        (1, high, &[path, (5, 1000.0)], 0, [0; 5]),
+        (2, high, &[path, (5, 1000.0)], 0, [0; 5]),
+    ] {
+        let spare = [ROW_WORDS, FRAMES as usize, FRAMES as usize, KEPT_WORDS];
+        let other = [0x4280_0000, 0x3f00_0000, 0, 0, 0];
+        let known = Answer::Rendered(1, held, Counts::of_numbers(numbers));
+        for (rows, change) in [
+            (vec![other, other], Change::Edit(1, row)),
+            (vec![other], Change::Insert(1, row)),
+            (vec![other, other, row], Change::Remove(1)),
+        ] {
+            let case = plain(instrument, FRAMES, rows.concat());
+            let mut lent = case.lent_with(random, spare);
+            lent.take.kept[..KEPT_WORDS].copy_from_slice(&state(floats));
+            let found = one_change(&case, &change, &mut lent.clone(), &mut lent, tally);
+            same(&format!("{change:08x?} from {floats:?}"), &case, found, known);
+        }
+        // The same words render nothing, and hold nothing.
+        let case = plain(instrument, FRAMES, [other, row].concat());
+        let mut lent = case.lent_with(random, spare);
+        lent.take.kept[..KEPT_WORDS].copy_from_slice(&state(floats));
+        let found = one_change(&case, &Change::Edit(1, row), &mut lent.clone(), &mut lent, tally);
+        same("an edit of the same words", &case, found, nothing_held(0));
+    }
+
+    // All rows that are rendered, and no other: x and y stay far above their top for four rows.
+    let case = plain(0, FRAMES, steady(6, low));
+    for (position, rows) in [(1, 5), (3, 3), (5, 1)] {
+        let mut lent = case.lent_with(random, [0; 4]);
+        let before = (position as usize - 1) * KEPT_WORDS;
+        lent.take.kept[before..][..KEPT_WORDS].copy_from_slice(&state(&[(4, 1e30), (5, 1e30)]));
+        let edit = Change::Edit(position, [0x4280_0000, 0, 0, 0, 0]);
+        let found = one_change(&case, &edit, &mut lent.clone(), &mut lent, tally);
+        let counts = Counts { wave_position: 24 * rows, ..NO_COUNTS };
+        same("x and y in several rows", &case, found, Answer::Rendered(rows, 24 * rows, counts));
     }
 }
 

@@ -3,7 +3,7 @@
 //!     compare [SCALE [SEED]]
 //!
 //! SCALE 1 is the quick run; 100 does a hundred times as much. SEED picks other inputs. The first
-//! difference is printed with its input and ends the run.
+//! difference is printed with its input and ends the run. A run that never met some kind of hold fails too.
 
 mod calls;
 mod facts;
@@ -13,12 +13,13 @@ mod voices;
 mod writer;
 
 use std::path::Path;
+use std::process::exit;
 
 use driver::cases::Case;
 use driver::original;
 use driver::random::Random;
 
-use calls::{at_limits, junk_lists, library_is_fresh, lists, rendering};
+use calls::{at_limits, holds_to_reach, junk_lists, library_is_fresh, lists, rendering};
 use tally::Tally;
 use texts::{programs, texts};
 use voices::{model_is_original, model_is_original_on_any_state};
@@ -73,6 +74,11 @@ fn main() {
         }
     }
 
+    let missed: Vec<String> = holds_to_reach().into_iter().filter(|name| !tally.0.contains_key(name)).collect();
+    if !missed.is_empty() {
+        println!("NOT REACHED:\n{}", missed.join("\n"));
+        exit(1);
+    }
     println!("equal, scale {scale}, seed {seed}:");
     for (name, n) in &tally.0 {
         println!("{n:>14}  {name}");

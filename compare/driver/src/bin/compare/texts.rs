@@ -50,8 +50,8 @@ pub fn texts(random: &mut Random, tally: &mut Tally) {
     same("answer of the reader", &text.escape_ascii(), read, answer);
     same_start("rows that were read", &text.escape_ascii(), &found, &expected);
     match answer {
-        Answer::Done(..) => tally.add("reader: accepted", 1),
         Answer::Refused(number, _) => tally.add(format!("reader: refused by {number:2}"), 1),
+        _ => tally.add("reader: accepted", 1),
     }
 }
 

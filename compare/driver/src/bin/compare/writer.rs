@@ -37,6 +37,7 @@ pub fn writing(lent: &Lent, tally: &mut Tally) -> (Answer, Vec<u8>) {
             tally.add("writer: bytes", bytes);
         }
         Answer::Refused(number, _) => tally.add(format!("writer: refused by {number:2}"), 1),
+        Answer::Rendered(..) => unreachable!(),
     }
     (answer, found)
 }
