@@ -4,10 +4,10 @@ mod common;
 
 use std::ptr::{null, null_mut};
 
-use common::{ROW, Series, bank, instruments, map, setup};
+use common::{ROW, Series, bank, climbing, instruments, map, numbers, setup};
 use wohketa_retake::{
-    BANK, Column, Instrument, KEPT_WORDS, MAP, MOST_ROWS, Reason, Refusal, Row, Setup, Take, edit, insert, read_score,
-    remove, render, sys, text_length, write_score,
+    BANK, Column, Counts, Instrument, KEPT_WORDS, MAP, MOST_ROWS, Reason, Refusal, Report, Row, Setup, Take, edit,
+    insert, read_score, remove, render, sys, text_length, write_score,
 };
 
 fn rows(count: usize) -> Vec<u32> {
@@ -52,9 +52,9 @@ fn take_of(text: &str) -> Take {
 }
 
 /// What the program `c_calls` must print has the model's words for three renderings, each edited, with a row put in and one
-/// taken out.
+/// taken out, and at last edited from kept words that no rendering leaves, so that positions are held.
 #[test]
-fn samples_and_kept_words_are_the_models() {
+fn samples_kept_words_and_counts_are_the_models() {
     let answers = include_str!("../../crates/c_calls/stdout");
     let bank: Box<[i16; BANK]> = Box::new(std::array::from_fn(|i| (i * 7919 % 32749) as i16));
     let wavetable = Setup { instrument: Instrument::Wavetable, rate: 48_000, frames: 4, bank: &bank };
@@ -82,6 +82,16 @@ fn samples_and_kept_words_are_the_models() {
         assert_eq!((&score, &take), (&words_of(inserted, "rows"), &take_of(inserted)));
         remove(&setup, &mut score, 4, 0, &mut take).unwrap();
         assert_eq!((&score, &take), (&words_of(removed, "rows"), &take_of(removed)));
+
+        let (_, held) = text.rsplit_once("\nedit ").unwrap();
+        let (after, known) = (words_of(held, "rows"), take_of(held));
+        take.kept[..KEPT_WORDS].copy_from_slice(&known.kept[..KEPT_WORDS]);
+        let row = Row::from_words(after[5..10].try_into().unwrap()).unwrap();
+        let report = edit(&setup, &mut score, 3, 1, row, &mut take).unwrap();
+        assert_eq!((&score, &take), (&after, &known));
+        let line = [&[0, report.rows as u64, report.held], &numbers(report.counts)[..]].concat();
+        assert_eq!(held.lines().next().unwrap(), line.iter().map(u64::to_string).collect::<Vec<String>>().join(" "));
+        assert!(report.held > 0);
     }
 }
 
@@ -111,7 +121,7 @@ fn the_oscillator_hears_neither_morph_nor_harmonics() {
     let before = take.clone();
     let other = Row { timbre: 0.2, morph: 1.0, harmonics: 0.0, ..ROW };
     let report = edit(&setup, &mut score, 5, 2, other, &mut take).unwrap();
-    assert_eq!((report.rows, report.held), (1, 0));
+    assert_eq!((report.rows, report.held, report.counts), (1, 0, Counts::default()));
     assert_eq!(take, before);
     let loud = Row { morph: 1.5, ..ROW };
     assert_eq!(refused(edit(&setup, &mut score, 5, 2, loud, &mut take)), (Reason::Limit, 2));
@@ -124,14 +134,73 @@ fn a_waveform_past_the_last_wave_is_held() {
     let bright = Row { timbre: 1.0, ..ROW };
     let mut score = [Row { timbre: 0.519_531_25, ..ROW }.words(), bright.words(), bright.words()].concat();
     let mut take = Take::new(3, 52);
+    let answer = |report: Report| (report.rows, report.held, numbers(report.counts));
     let report = render(&setup, &score, 3, &mut take).unwrap();
-    assert_eq!((report.rows, report.held), (3, 53));
+    assert_eq!(answer(report), (3, 53, [0, 53, 0, 0, 0]));
     let report = edit(&setup, &mut score, 3, 2, Row { timbre: 0.5, ..ROW }, &mut take).unwrap();
-    assert_eq!((report.rows, report.held), (1, 0));
+    assert_eq!(answer(report), (1, 0, [0; 5]));
     let report = remove(&setup, &mut score, 3, 2, &mut take).unwrap();
-    assert_eq!((report.rows, report.held), (0, 0));
+    assert_eq!(answer(report), (0, 0, [0; 5]));
     let report = insert(&setup, &mut score, 2, 1, bright, &mut take).unwrap();
-    assert_eq!((report.rows, report.held), (2, 53));
+    assert_eq!(answer(report), (2, 53, [0, 53, 0, 0, 0]));
+}
+
+#[test]
+fn a_level_past_the_last_is_held_and_a_lower_one_is_not() {
+    let bank = bank();
+    let setup = Setup { frames: 128, ..setup(Instrument::Wavetable, &bank) };
+    let mut score: Vec<u32> = climbing().iter().flat_map(|row| row.words()).collect();
+    let mut take = Take::new(54, 128);
+    let report = render(&setup, &score, 54, &mut take).unwrap();
+    assert_eq!((report.rows, report.held, numbers(report.counts)), (54, 49, [0, 0, 49, 0, 0]));
+    // The last row alone, which held: it counts what it holds itself.
+    let high = Row { morph: 1.0, ..climbing()[53] };
+    let report = edit(&setup, &mut score, 54, 53, high, &mut take).unwrap();
+    assert_eq!((report.rows, report.held, numbers(report.counts)), (1, 49, [0, 0, 49, 0, 0]));
+    let lower: Vec<u32> = climbing().iter().flat_map(|row| Row { harmonics: 0.93, ..*row }.words()).collect();
+    let report = render(&setup, &lower, 54, &mut take).unwrap();
+    assert_eq!((report.rows, report.held, report.counts), (54, 0, Counts::default()));
+}
+
+/// Kept words that are zeros but for these floats.
+fn state(floats: &[(usize, f32)]) -> [u32; KEPT_WORDS] {
+    let mut words = [0; KEPT_WORDS];
+    floats.iter().for_each(|(at, x)| words[*at] = x.to_bits());
+    words
+}
+
+/// x and y are one kind, and a frame that holds several kinds counts once in each and once in all.
+#[test]
+fn a_frame_counts_once_in_each_kind() {
+    let bank = bank();
+    let setup = setup(Instrument::Wavetable, &bank);
+    let holds = |floats: &[(usize, f32)]| {
+        let mut take = junk_with(2, 0, &state(floats));
+        let report = edit(&setup, &mut rows(2), 2, 1, ROW, &mut take).unwrap();
+        (report.held, numbers(report.counts))
+    };
+    let (phase, x, y, z) = ((0, 5.5), (4, 1e3), (5, 1e3), (6, 1e3));
+    assert_eq!(holds(&[]), (0, [0; 5]));
+    assert_eq!(holds(&[phase]), (4, [4, 0, 0, 0, 0]));
+    assert_eq!(holds(&[x]), (24, [0, 24, 0, 0, 0]));
+    assert_eq!(holds(&[x, y]), (24, [0, 24, 0, 0, 0]));
+    assert_eq!(holds(&[phase, x, y, z]), (24, [4, 24, 24, 0, 0]));
+}
+
+#[test]
+fn counts_add_up_kind_by_kind() {
+    let (bank, map) = (bank(), map());
+    let terrain = setup(Instrument::TerrainWithMap(&map), &bank);
+    let oscillator = setup(Instrument::Oscillator, &bank);
+    let high = Row { harmonics: 1.0, ..ROW };
+    let mut sum = Counts::default();
+    for (setup, floats) in [(terrain, &[(0, 1.0), (4, 1e4), (5, 6.5)][..]), (oscillator, &[(0, 5.5), (3, 130.0)])] {
+        let mut take = junk_with(2, 0, &state(floats));
+        sum += edit(&setup, &mut rows(2), 2, 1, high, &mut take).unwrap().counts;
+    }
+    assert_eq!(numbers(sum), [4, 16, 0, 30, 62]);
+    sum += Counts::default();
+    assert_eq!(numbers(sum), [4, 16, 0, 30, 62]);
 }
 
 #[test]
@@ -175,7 +244,7 @@ fn an_edit_of_the_same_words_renders_nothing() {
     let setup = setup(Instrument::Wavetable, &bank);
     let mut take = junk(1);
     let report = edit(&setup, &mut ROW.words(), 1, 0, ROW, &mut take).unwrap();
-    assert_eq!((report.rows, report.held), (0, 0));
+    assert_eq!((report.rows, report.held, report.counts), (0, 0, Counts::default()));
     assert_eq!(take, junk(1));
 }
 
@@ -245,7 +314,7 @@ fn a_removal_from_a_junk_take_measures_rows_where_they_came_from() {
     // The removed row left the state that it found: what follows is moved, and nothing is rendered.
     let mut same = junk_with(8, 3, kept(&junk(8), 2));
     let report = remove(&setup, &mut rows(8), 8, 3, &mut same).unwrap();
-    assert_eq!((report.rows, report.held), (0, 0));
+    assert_eq!((report.rows, report.held, report.counts), (0, 0, Counts::default()));
     assert_eq!(same.out, [&junk(8).out[..72], &junk(8).out[96..], &junk(8).out[168..]].concat());
 
     // The last row leaves nothing to measure.
@@ -395,23 +464,24 @@ fn part_of_a_place_is_no_room() {
 fn instruments_and_lengths_of_other_callers_are_refused() {
     let bank = bank();
     let reason = |instrument: u32, bank_len: usize| {
-        let (none, mut first, mut second) = (null_mut(), 7, 7);
+        let (none, mut first, mut second, mut counts) = (null_mut(), 7, 7, [[7; 5]; 4]);
         let (a, b, x, y) = (bank.as_ptr(), null(), &mut first, &mut second);
+        let [c, d, e, f] = counts.each_mut().map(|counts| counts.as_mut_ptr());
         // SAFETY: `bank_len` is at most the bank's length.
         let numbers = unsafe {
             let (i, n) = (instrument, bank_len);
             [
-                sys::retake_render(i, 48_000, 24, a, n, b, 0, none, 0, 1, none, 0, none, 0, none, 0, x, y),
+                sys::retake_render(i, 48_000, 24, a, n, b, 0, none, 0, 1, none, 0, none, 0, none, 0, x, y, c),
                 sys::retake_edit(
-                    i, 48_000, 24, a, n, b, 0, none, 0, 1, 0, 0, 0, 0, 0, 0, none, 0, none, 0, none, 0, x, y,
+                    i, 48_000, 24, a, n, b, 0, none, 0, 1, 0, 0, 0, 0, 0, 0, none, 0, none, 0, none, 0, x, y, d,
                 ),
                 sys::retake_insert(
-                    i, 48_000, 24, a, n, b, 0, none, 0, 1, 0, 0, 0, 0, 0, 0, none, 0, none, 0, none, 0, x, y,
+                    i, 48_000, 24, a, n, b, 0, none, 0, 1, 0, 0, 0, 0, 0, 0, none, 0, none, 0, none, 0, x, y, e,
                 ),
-                sys::retake_remove(i, 48_000, 24, a, n, b, 0, none, 0, 1, 0, none, 0, none, 0, none, 0, x, y),
+                sys::retake_remove(i, 48_000, 24, a, n, b, 0, none, 0, 1, 0, none, 0, none, 0, none, 0, x, y, f),
             ]
         };
-        assert_eq!(numbers, [numbers[0]; 4]);
+        assert_eq!((numbers, counts), ([numbers[0]; 4], [[0; 5]; 4]));
         (Reason::of(numbers[0]), first, second)
     };
     assert_eq!(reason(4, BANK), (Reason::Instrument, 0, 0));

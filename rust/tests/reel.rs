@@ -2,9 +2,9 @@
 
 mod common;
 
-use common::{ROW, Series, bank, instruments, map, setup};
+use common::{ROW, Series, bank, climbing, instruments, map, numbers, setup};
 use wohketa_retake::{
-    Column, Edited, Instrument, KEPT_WORDS, MOST_ROWS, Reason, Reel, Refusal, Row, Score, Setup, samples,
+    Column, Counts, Edited, Instrument, KEPT_WORDS, MOST_ROWS, Reason, Reel, Refusal, Row, Score, Setup, samples,
 };
 
 /// The same score and take, word by word.
@@ -198,12 +198,34 @@ fn an_edit_says_which_rows_it_rendered() {
     let mut score = vec![ROW; 10];
     score[6].restart = true;
     let mut reel = Reel::render(&setup, &score).unwrap();
-    assert_eq!((reel.rendering().rows, reel.rendering().held), (10, 0));
+    let rendering = reel.rendering();
+    assert_eq!((rendering.rows, rendering.held, rendering.counts), (10, 0, Counts::default()));
     let edited = reel.edit(2, Row { note: 72.0, ..ROW }).unwrap();
-    assert_eq!((edited.rows, edited.held), (2..6, 0));
+    assert_eq!((edited.rows, edited.held, edited.counts), (2..6, 0, Counts::default()));
     assert!(reel.edit(2, Row { note: 72.0, ..ROW }).unwrap().rows.is_empty());
     assert_eq!(reel.edit(8, Row { note: 72.0, ..ROW }).unwrap().rows, 8..10);
     assert_eq!(reel.samples_of(8..10), 192..240);
+}
+
+#[test]
+fn a_reel_says_which_kind_it_held() {
+    let bank = bank();
+    let setup = Setup { frames: 128, ..setup(Instrument::Wavetable, &bank) };
+    let mut score = climbing().to_vec();
+    let mut reel = Reel::render(&setup, &score).unwrap();
+    assert_eq!((reel.rendering().held, numbers(reel.rendering().counts)), (49, [0, 0, 49, 0, 0]));
+    // A row more stays at the top.
+    score.push(score[53]);
+    let pushed = reel.push(score[53]).unwrap();
+    assert_eq!((pushed.rows.clone(), pushed.held), (54..55, pushed.counts.level));
+    let all = Reel::render(&setup, &score).unwrap().rendering();
+    assert_eq!((all.held, numbers(all.counts)), (49 + pushed.held, [0, 0, 49 + pushed.held, 0, 0]));
+    // Without the first row they are as many as at first.
+    let removed = reel.remove(0).unwrap();
+    assert_eq!((removed.rows, removed.held, numbers(removed.counts)), (0..54, 49, [0, 0, 49, 0, 0]));
+    // Refused edits leave the report of the rendering as it was.
+    reel.edit(9, Row { timbre: 2.0, ..ROW }).unwrap_err();
+    assert_eq!(reel.rendering().held, 49);
 }
 
 #[test]

@@ -1,6 +1,6 @@
 //! What the tests share: a bank, a map, numbers that look random.
 
-use wohketa_retake::{BANK, Instrument, MAP, Row, Setup};
+use wohketa_retake::{BANK, Counts, Instrument, MAP, Row, Setup};
 
 pub fn bank() -> Box<[i16; BANK]> {
     Box::new(std::array::from_fn(|i| (i * 7919 % 60_000) as u16 as i16))
@@ -20,6 +20,16 @@ pub fn setup<'a>(instrument: Instrument<'a>, bank: &'a [i16; BANK]) -> Setup<'a>
 
 /// A row of every instrument.
 pub const ROW: Row = Row { note: 60.0, timbre: 0.5, morph: 0.25, harmonics: 0.5, restart: false };
+
+/// Rows in whose last the wavetable voice's level comes past its top, in blocks of 128 frames.
+pub fn climbing() -> [Row; 54] {
+    [Row { note: 120.0, timbre: 0.0, morph: 0.0, harmonics: 1.0, restart: false }; 54]
+}
+
+/// The counts in the library's order.
+pub fn numbers(counts: Counts) -> [u64; 5] {
+    [counts.phase, counts.wave_position, counts.level, counts.map, counts.bank]
+}
 
 /// A series of numbers.
 pub struct Series(pub u32);
