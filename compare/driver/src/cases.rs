@@ -238,10 +238,20 @@ pub fn junk_word(random: &mut Random) -> u32 {
     }
 }
 
-/// 13 kept words near those that renderings keep, now and then junk, or positions far past their tops.
+/// 13 kept words near those that renderings keep, now and then junk.
 pub fn odd_state(random: &mut Random, instrument: u32) -> [u32; KEPT_WORDS] {
+    state_to(random, instrument, 1.0)
+}
+
+/// The same with positions that go further, past their tops.
+pub fn far_state(random: &mut Random, instrument: u32) -> [u32; KEPT_WORDS] {
+    let far = random.pick(&[1.2, 4.0, 30.0]);
+    state_to(random, instrument, far)
+}
+
+/// An odd state whose positions go so many times as far as those that renderings keep.
+fn state_to(random: &mut Random, instrument: u32, far: f32) -> [u32; KEPT_WORDS] {
     let wild = random.pick(&[2, 8, 40]);
-    let far = random.pick(&[1.0, 1.0, 1.2, 4.0]);
     std::array::from_fn(|i| {
         if random.once_in(wild) {
             return junk_word(random);

@@ -5,70 +5,11 @@ use driver::cases::{self, Case, Lent};
 use driver::random::Random;
 use driver::{changes, library, original};
 use model::take::{self, Change, Row, demand_3, fresh};
-use model::voice::{Holds, Voice};
-use model::{Answer, KEPT_WORDS, KINDS, ROW_WORDS, Take};
+use model::voice::Voice;
+use model::{Answer, KEPT_WORDS, ROW_WORDS, Take};
 
-use crate::tally::{Tally, fail, same, same_start};
-
-/// The kinds of holds in the order of the counts, and what a frame or a block may hold besides.
-const KIND_NAMES: [&str; KINDS] = ["phase", "wave position", "level", "map", "bank"];
-const SEVERAL: &str = "several kinds in one frame";
-const X_AND_Y: &str = "x and y in one frame";
-const MAP_AND_BANK: &str = "map and bank in one block";
-
-/// What each instrument holds in some rendering, and what in some edit, insertion and removal.
-const REACHED: [(&[&str], &[&str]); 4] = [
-    (&["level"], &["phase", "wave position", "level", SEVERAL, X_AND_Y]),
-    (&["bank"], &["bank"]),
-    (&["map", "bank"], &["map", "bank", MAP_AND_BANK]),
-    (&["wave position"], &["phase", "wave position", SEVERAL]),
-];
-
-fn hold_name(call: &str, instrument: usize, kind: &str) -> String {
-    format!("{call}: held on instrument {instrument}, {kind}")
-}
-
-/// The holds that a run must have met for its comparison of them to mean something.
-pub fn holds_to_reach() -> Vec<String> {
-    let mut names = Vec::new();
-    for (instrument, (rendered, changed)) in REACHED.into_iter().enumerate() {
-        for (call, kinds) in [("render", rendered), ("edit", changed), ("insert", changed), ("remove", changed)] {
-            names.extend(kinds.iter().map(|kind| hold_name(call, instrument, kind)));
-        }
-    }
-    names
-}
-
-/// Adds what the rows of an accepted call held.
-fn tally_holds(call: &str, case: &Case, rows: &[Row], tally: &mut Tally) {
-    let Answer::Rendered(_, held, counts) = take::report(rows) else { unreachable!() };
-    let mut holds = Holds::default();
-    rows.iter().for_each(|row| holds.add(&row.block.holds));
-    let both = rows.iter().filter(|row| row.block.counts.map > 0 && row.block.counts.bank > 0).count() as u64;
-    tally.add(format!("{call}: held"), held);
-    let combined = [(SEVERAL, holds.several), (X_AND_Y, holds.x_and_y), (MAP_AND_BANK, both)];
-    for (kind, n) in KIND_NAMES.into_iter().zip(counts.numbers()).chain(combined).filter(|(_, n)| *n > 0) {
-        tally.add(hold_name(call, case.instrument as usize, kind), n);
-    }
-}
-
-/// What `held` and the five counts have to do with each other in the answer of any call.
-fn kinds_make_held(what: &str, case: &Case, answer: Answer) {
-    let Answer::Rendered(rows, held, counts) = answer else { return };
-    let sum: u64 = counts.numbers().iter().sum();
-    let (frames, others) = match case.instrument {
-        0 => (1, counts.map + counts.bank),
-        1 => (4, sum - counts.bank),
-        2 => (4, sum - counts.map - counts.bank),
-        _ => (1, sum - counts.phase - counts.wave_position),
-    };
-    let of_frames = held <= sum && counts.numbers().iter().all(|n| *n <= held);
-    let of_readings = held == sum;
-    let right = if frames == 1 { of_frames } else { of_readings };
-    if !right || others > 0 || held > frames * rows * u64::from(case.frames) {
-        fail(&format!("{what}: {answer:?} can't be"), case);
-    }
-}
+use crate::holds;
+use crate::tally::{Tally, same, same_start};
 
 /// The library's whole rendering into a lent take, beside the model's.
 pub fn rendering(case: &Case, lent: Lent, tally: &mut Tally) {
@@ -77,14 +18,14 @@ pub fn rendering(case: &Case, lent: Lent, tally: &mut Tally) {
     let answer = library::render(&case.setup(), &lent.rows, lent.count, &mut found);
     let what = format!("answer of render of {} rows", lent.count);
     same(&what, case, answer, take::answer(&rendered));
-    kinds_make_held(&what, case, answer);
+    holds::go_together(&what, case, answer);
     same_take("render", case, &found, &expected);
     match rendered {
         Ok(rows) => {
             tally.add("render: accepted", 1);
             tally.add("render: rows", rows.len() as u64);
             tally.add("render: samples (out and aux)", 2 * rows.len() as u64 * u64::from(case.frames));
-            tally_holds("render", case, &rows, tally);
+            holds::add("render", case, &rows, tally);
         }
         Err(refusal) => tally.add(format!("render: {}", refused(refusal)), 1),
     }
@@ -104,10 +45,11 @@ pub fn library_is_fresh(case: &Case, fresh: &[Row], mut lent: Lent, tally: &mut 
     begin(&mut expected.kept, fresh.iter().flat_map(|r| r.kept));
     let answer = library::render(&case.setup(), &lent.rows, lent.count, &mut lent.take);
     same("answer of a fresh rendering", case, answer, take::report(fresh));
-    kinds_make_held("fresh rendering", case, answer);
+    holds::go_together("fresh rendering", case, answer);
     same_take("fresh rendering", case, &lent.take, &expected);
     let samples = 2 * fresh.len() as u64 * u64::from(case.frames);
     tally.add("fresh: samples of the library, equal to the same (out and aux)", samples);
+    holds::add("fresh", case, fresh, tally);
 }
 
 /// Puts words at the beginning of others.
@@ -166,7 +108,7 @@ pub fn one_change(case: &Case, change: &Change, found: &mut Lent, expected: &mut
     let rendered = take::change_rows(&setup, &mut expected.rows, expected.count, change, &mut expected.take);
     let answer = library::change(&setup, &mut found.rows, found.count, change, &mut found.take);
     same(&what, case, answer, take::answer(&rendered));
-    kinds_make_held(&what, case, answer);
+    holds::go_together(&what, case, answer);
     same_start(&format!("{what}: rows"), case, &found.rows, &expected.rows);
     same_take(&what, case, &found.take, &expected.take);
     let name = changes::name(change);
@@ -178,7 +120,7 @@ pub fn one_change(case: &Case, change: &Change, found: &mut Lent, expected: &mut
             let rendered = ["no row", "1 row", "more rows"][rows.len().min(2)];
             let stop = changes::stop(change, expected.score(), rows.len() as u64);
             tally.add(format!("{name}: accepted, {rendered}, stopped at {stop}"), 1);
-            tally_holds(name, case, &rows, tally);
+            holds::add(name, case, &rows, tally);
         }
         Err(refusal) => tally.add(format!("{name}: {}", refused(refusal)), 1),
     }
@@ -256,6 +198,7 @@ pub fn junk_lists(mut case: Case, random: &mut Random, tally: &mut Tally) {
         for k in 0..places {
             let state = match random.below(6) {
                 0 => Voice::fresh(&case.setup()).kept(),
+                1..4 => cases::far_state(random, case.instrument),
                 _ => cases::odd_state(random, case.instrument),
             };
             expected.take.kept[k * KEPT_WORDS..][..KEPT_WORDS].copy_from_slice(&state);

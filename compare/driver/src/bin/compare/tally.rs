@@ -5,7 +5,7 @@ use std::fmt::{Debug, Display, LowerHex};
 use std::process::exit;
 
 /// How much was compared, by name.
-#[derive(Default)]
+#[derive(Clone, Default)]
 pub struct Tally(pub BTreeMap<String, u64>);
 
 impl Tally {

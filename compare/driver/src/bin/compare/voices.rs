@@ -52,7 +52,8 @@ pub fn model_is_original(case: &Case, tally: &mut Tally) -> Vec<Row> {
 /// its range and where the layer is above the last (height 0): document 01 decides there, and document
 /// 02 on the oscillator's phase, which the original reads on for as long as its wave goes on.
 pub fn model_is_original_on_any_state(case: &Case, random: &mut Random, tally: &mut Tally) {
-    let kept = cases::odd_state(random, case.instrument);
+    let state = if random.once_in(8) { cases::far_state } else { cases::odd_state };
+    let kept = state(random, case.instrument);
     let row = &case.rows[..ROW_WORDS];
     let mut voice = Voice::of_kept(case.instrument, &kept);
     let block = voice.render(&case.setup(), row);
