@@ -44,6 +44,9 @@
 //! # Ok::<(), wohketa_retake::Refusal>(())
 //! ```
 //!
+//! Where the original would have read past a table, a position is held at its top. Each call says how often,
+//! and [`Counts`] of which kind.
+//!
 //! A [`Score`] has the rows alone. It is read from a text and displayed as its tidy text: a version store
 //! that keeps that shows no change where columns were shuffled or letters changed case. A reel's is
 //! [`Reel::score`].
