@@ -41,9 +41,9 @@
  * What is lent
  *
  * Every buffer is the caller's, and each length counts elements, not bytes. No two buffers of a call
- * may overlap, and `first`, `second` and `counts`, which is five numbers, are places of their own. The
- * functions keep nothing between calls, allocate nothing, take about 15 KiB of stack and always end;
- * calls that get different buffers may run at the same time.
+ * may overlap, and `first`, `second` and `counts` (five numbers) are places of their own. The functions
+ * keep nothing between calls, allocate nothing, take about 15 KiB of stack and always end; calls that get
+ * different buffers may run at the same time.
  *
  * For rows to be put in, lend more than the score needs: a score that may grow to n rows wants n times
  * 5 row words, n times `frames` of out and of aux, and n times 13 of kept. With n = RETAKE_MOST_ROWS
@@ -77,8 +77,9 @@
  * on a refusal, and where nothing is rendered, it is five zeros.
  *
  *     counts[0] phase           wavetable, oscillator: frames that hold the phase
- *     counts[1] wave position   wavetable: frames that hold x, y or both; oscillator: its waveform
- *     counts[2] level           wavetable: frames that hold z
+ *     counts[1] wave position   wavetable: frames that hold x (by timbre), y (by morph) or both;
+ *                               oscillator: frames that hold its waveform (by timbre)
+ *     counts[2] level           wavetable: frames that hold z (by harmonics)
  *     counts[3] map             terrain with map: readings of the map that are held
  *     counts[4] bank            terrain, with map or without: readings of the bank that are held
  *
@@ -399,7 +400,8 @@ static inline retake_report retake_report_of(uint32_t number, uint64_t first, ui
 }
 
 /* The same of a function with counts. */
-static inline retake_report retake_report_with(uint32_t number, uint64_t first, uint64_t second, const uint64_t *counts) {
+static inline retake_report retake_report_with(uint32_t number, uint64_t first, uint64_t second,
+                                               const uint64_t *counts) {
     retake_report report = retake_report_of(number, first, second);
     report.counts = retake_counts_of(counts);
     return report;

@@ -226,11 +226,20 @@ fn splices(plain: impl Fn(u32, u32, Vec<u32>) -> Case, random: &mut Random, tall
     }
 }
 
-/// A state whose words are zeros but for these floats.
-fn state(floats: &[(usize, f32)]) -> [u32; KEPT_WORDS] {
-    let mut state = [0; KEPT_WORDS];
+/// A change of a junk take that keeps zeros, but for these floats, before the changed row.
+fn change_from(
+    floats: &[(usize, f32)],
+    case: &Case,
+    change: &Change,
+    random: &mut Random,
+    tally: &mut Tally,
+) -> Answer {
+    let frames = case.frames as usize;
+    let mut lent = case.lent_with(random, [ROW_WORDS, frames, frames, KEPT_WORDS]);
+    let state = &mut lent.take.kept[(change.position() as usize - 1) * KEPT_WORDS..][..KEPT_WORDS];
+    state.fill(0);
     floats.iter().for_each(|(at, x)| state[*at] = x.to_bits());
-    state
+    one_change(case, change, &mut lent.clone(), &mut lent, tally)
 }
 
 /// Edits, insertions and removals that render one row of 24 frames from a known state, and what it holds.
@@ -240,11 +249,11 @@ fn state(floats: &[(usize, f32)]) -> [u32; KEPT_WORDS] {
 /// steps, and 65 is the twelfth. Terrain: the offset goes from 10,000 to -0.05 in equal steps, and only the last
 /// lies on the map; with it the layer goes from 6.5 to 7.9999, and 7 comes in the ninth frame.
 fn kinds(plain: impl Fn(u32, u32, Vec<u32>) -> Case, random: &mut Random, tally: &mut Tally) {
-    const FRAMES: u32 = 24;
     let (phase, x, y, z) = ((0, 5.5), (4, 1000.0), (5, 1000.0), (6, 1000.0));
     let (waveform, path, offset) = ((3, 130.0), (0, 1.0), (4, 10_000.0));
     let low = [0x4270_0000, 0, 0, 0, 0];
     let high = [0x4270_0000, 0, 0x3f00_0000, 0x3f80_0000, 0];
+    let other = [0x4280_0000, 0x3f00_0000, 0, 0, 0];
     for (instrument, row, floats, held, numbers) in [
         (0, low, &[][..], 0, [0; 5]),
         (0, low, &[phase], 4, [4, 0, 0, 0, 0]),
@@ -269,36 +278,25 @@ fn kinds(plain: impl Fn(u32, u32, Vec<u32>) -> Case, random: &mut Random, tally:
         (1, high, &[path, (5, 1000.0)], 0, [0; 5]),
         (2, high, &[path, (5, 1000.0)], 0, [0; 5]),
     ] {
-        let spare = [ROW_WORDS, FRAMES as usize, FRAMES as usize, KEPT_WORDS];
-        let other = [0x4280_0000, 0x3f00_0000, 0, 0, 0];
         let known = Answer::Rendered(1, held, Counts::of_numbers(numbers));
-        for (rows, change) in [
-            (vec![other, other], Change::Edit(1, row)),
-            (vec![other], Change::Insert(1, row)),
-            (vec![other, other, row], Change::Remove(1)),
+        for (rows, change, answer) in [
+            (vec![other, other], Change::Edit(1, row), known),
+            (vec![other], Change::Insert(1, row), known),
+            (vec![other, other, row], Change::Remove(1), known),
+            // The same words render nothing, and hold nothing.
+            (vec![other, row], Change::Edit(1, row), nothing_held(0)),
         ] {
-            let case = plain(instrument, FRAMES, rows.concat());
-            let mut lent = case.lent_with(random, spare);
-            lent.take.kept[..KEPT_WORDS].copy_from_slice(&state(floats));
-            let found = one_change(&case, &change, &mut lent.clone(), &mut lent, tally);
-            same(&format!("{change:08x?} from {floats:?}"), &case, found, known);
+            let case = plain(instrument, 24, rows.concat());
+            let found = change_from(floats, &case, &change, random, tally);
+            same(&format!("{change:08x?} from {floats:?}"), &case, found, answer);
         }
-        // The same words render nothing, and hold nothing.
-        let case = plain(instrument, FRAMES, [other, row].concat());
-        let mut lent = case.lent_with(random, spare);
-        lent.take.kept[..KEPT_WORDS].copy_from_slice(&state(floats));
-        let found = one_change(&case, &Change::Edit(1, row), &mut lent.clone(), &mut lent, tally);
-        same("an edit of the same words", &case, found, nothing_held(0));
     }
 
-    // All rows that are rendered, and no other: x and y stay far above their top for four rows.
-    let case = plain(0, FRAMES, steady(6, low));
+    // All rows that are rendered, and no other: x and y stay far above their top for five rows.
+    let case = plain(0, 24, steady(6, low));
     for (position, rows) in [(1, 5), (3, 3), (5, 1)] {
-        let mut lent = case.lent_with(random, [0; 4]);
-        let before = (position as usize - 1) * KEPT_WORDS;
-        lent.take.kept[before..][..KEPT_WORDS].copy_from_slice(&state(&[(4, 1e30), (5, 1e30)]));
-        let edit = Change::Edit(position, [0x4280_0000, 0, 0, 0, 0]);
-        let found = one_change(&case, &edit, &mut lent.clone(), &mut lent, tally);
+        let edit = Change::Edit(position, other);
+        let found = change_from(&[(4, 1e30), (5, 1e30)], &case, &edit, random, tally);
         let counts = Counts { wave_position: 24 * rows, ..NO_COUNTS };
         same("x and y in several rows", &case, found, Answer::Rendered(rows, 24 * rows, counts));
     }
