@@ -247,7 +247,7 @@ fn change_from(
 /// Wavetable: x, y and z go at most a tenth of their way to 0 in a frame, so 1000 stays far above the top; the
 /// phase loses 1 in a frame, but for less than a hundredth. Oscillator: the waveform goes from 130 to 0 in equal
 /// steps, and 65 is the twelfth. Terrain: the offset goes from 10,000 to -0.05 in equal steps, and only the last
-/// lies on the map; with it the layer goes from 6.5 to 7.9999, and 7 comes in the ninth frame.
+/// lies within map and bank; with it the layer goes from 6.5 to 7.9999, and 7 comes in the ninth frame.
 fn kinds(plain: impl Fn(u32, u32, Vec<u32>) -> Case, random: &mut Random, tally: &mut Tally) {
     let (phase, x, y, z) = ((0, 5.5), (4, 1000.0), (5, 1000.0), (6, 1000.0));
     let (waveform, path, offset) = ((3, 130.0), (0, 1.0), (4, 10_000.0));
