@@ -1,5 +1,5 @@
--- What the C functions return and leave: the number, what is written to `first` and `second`, and the lent words and bytes, by the definitions of
--- reading, of writing and of the calls over a score and a take.
+-- What the C functions return and leave: the number, what is written to `first`, `second` and `counts`, and the lent words and bytes, by the
+-- definitions of reading, of writing and of the calls over a score and a take.
 use Prim.Native.Nat.{ℕ}
 use mathlib.Core.List.{List, [], _∷_}
 use Rattle.score.specs.Numbers.{Result}
@@ -7,7 +7,10 @@ use Rattle.reader.specs.Reading as reading
 use Rattle.writer.specs.Writing as writing
 use Rattle.rows.specs.declared.Settings.{Settings}
 use Rattle.rows.specs.Rows.{Take}
-use Rattle.take.specs.Take.{resultOf, Outcome}
+use Rattle.utils.specs.Holds.{none}
+use Rattle.take.specs.declared.Answer.{Answer}
+use Rattle.take.specs.declared.Answer.the-variants.{Done, Refused}
+use Rattle.take.specs.Take.{countsOf, resultOf, Outcome}
 
 -- The first of a call's values, 0 where there is none.
 unfoldable pub firstOf : List ℕ → ℕ
@@ -49,14 +52,20 @@ ofReading o = filled (givenOf (reading.resultOf (o .answer))) (o .rows)
 abbrev pub ofWriting : writing.Outcome → Filled
 ofWriting o = filled (givenOf (writing.resultOf (o .answer))) (o .text)
 
--- After rendering, an edit, an insertion or a removal: the result, the lent row words, and the lent take.
+-- What is written to `counts`: the five counts of an accepted call, and zeros on a refusal.
+unfoldable pub countsIn : Answer → List ℕ
+countsIn (Done report) = countsOf (report .holds)
+countsIn (Refused r) = countsOf none
+
+-- After rendering, an edit, an insertion or a removal: the result, the five counts, the lent row words, and the lent take.
 pub record Called : Type 0 where
   pub result : Given
+  pub counts : List ℕ
   pub rows : List ℕ
   pub left : Take
 
-abbrev pub called : Given → List ℕ → Take → Called
-called result rows t = record { result = result; rows = rows; left = t }
+abbrev pub called : Given → List ℕ → List ℕ → Take → Called
+called result counts rows t = record { result = result; counts = counts; rows = rows; left = t }
 
 abbrev pub ofCall : Outcome → Called
-ofCall o = called (givenOf (resultOf (o .answer))) (o .rows) (o .left)
+ofCall o = called (givenOf (resultOf (o .answer))) (countsIn (o .answer)) (o .rows) (o .left)

@@ -1,6 +1,7 @@
 // The C functions of the static library, declared in include/retake.h. Each returns 0 or the number of its refusal and writes its values to
 // `first` and `second`: the row count and 0 (reader), the byte count and 0 (writer), the rows rendered and `held` (rendering, edit, insertion,
-// removal), the place and 0 (a refusal). The score and its take stand at the start of the lent words; `count` says how many rows it has.
+// removal), the place and 0 (a refusal). Rendering, edit, insertion and removal also write the five counts of what was held, zeros on a refusal.
+// The score and its take stand at the start of the lent words; `count` says how many rows it has.
 ghost use mathlib.Core.Path.{_≡_};
 ghost use mathlib.Core.List.{_∷_, []};
 ghost use Rattle.score.specs.Numbers.{refused};
@@ -11,7 +12,7 @@ ghost use Rattle.writer.specs.Writing as writing;
 ghost use Rattle.rows.specs.Rows.{setup, lent};
 ghost use Rattle.refusals.specs.Calls.{render, edit, insert, remove};
 ghost use Rattle.take.specs.Take.{resultOf, callOf};
-ghost use Rattle.retake_c.specs.Calls.{given, givenOf, settings, filled, ofReading, ofWriting, called, ofCall};
+ghost use Rattle.retake_c.specs.Calls.{given, givenOf, countsIn, settings, filled, ofReading, ofWriting, called, ofCall};
 use reader::ReadAnswer;
 use rows::Settings;
 use score::refusal::Refusal;
@@ -72,6 +73,22 @@ fn values_of(answer: Answer) -> Values
             second: report.holds.held as u64,
         },
         Answer::Refused(refusal) => refused_values(refusal),
+    }
+}
+
+// The five counts of an answer, zeros of a refusal.
+fn counts_of(answer: Answer) -> [u64; 5]
+    ensures { λ r. ⌜ r ≡ countsIn answer ⌝ }
+{
+    match answer {
+        Answer::Done(report) => [
+            report.holds.phase as u64,
+            report.holds.wave_position as u64,
+            report.holds.level as u64,
+            report.holds.map as u64,
+            report.holds.bank as u64,
+        ],
+        Answer::Refused(_) => [0; 5],
     }
 }
 
@@ -139,9 +156,10 @@ pub extern "C" fn retake_render(
     kept: &mut [u32],
     first: &mut u64,
     second: &mut u64,
+    counts: &mut [u64; 5],
 ) -> u32
     ensures { λ r. ⌜
-        called (given r (now (first .exit)) (now (second .exit))) (now (rows .entry))
+        called (given r (now (first .exit)) (now (second .exit))) (now (counts .exit)) (now (rows .entry))
         (lent (now (out .exit)) (now (aux .exit)) (now (kept .exit)))
         ≡ ofCall (callOf (setup (settings instrument rate frames) (now (bank .entry)) (now (map .entry))) count (now (rows .entry))
         (lent (now (out .entry)) (now (aux .entry)) (now (kept .entry))) (render)) ⌝ }
@@ -151,6 +169,7 @@ pub extern "C" fn retake_render(
     let v = values_of(answer);
     *first = v.first;
     *second = v.second;
+    *counts = counts_of(answer);
     v.number
 }
 
@@ -175,9 +194,10 @@ pub extern "C" fn retake_edit(
     kept: &mut [u32],
     first: &mut u64,
     second: &mut u64,
+    counts: &mut [u64; 5],
 ) -> u32
     ensures { λ r. ⌜
-        called (given r (now (first .exit)) (now (second .exit))) (now (rows .exit))
+        called (given r (now (first .exit)) (now (second .exit))) (now (counts .exit)) (now (rows .exit))
         (lent (now (out .exit)) (now (aux .exit)) (now (kept .exit)))
         ≡ ofCall (callOf (setup (settings instrument rate frames) (now (bank .entry)) (now (map .entry))) count (now (rows .entry))
         (lent (now (out .entry)) (now (aux .entry)) (now (kept .entry))) (edit position (note ∷ timbre ∷ morph ∷ harmonics ∷ restart ∷ []))) ⌝ }
@@ -199,6 +219,7 @@ pub extern "C" fn retake_edit(
     let v = values_of(answer);
     *first = v.first;
     *second = v.second;
+    *counts = counts_of(answer);
     v.number
 }
 
@@ -223,9 +244,10 @@ pub extern "C" fn retake_insert(
     kept: &mut [u32],
     first: &mut u64,
     second: &mut u64,
+    counts: &mut [u64; 5],
 ) -> u32
     ensures { λ r. ⌜
-        called (given r (now (first .exit)) (now (second .exit))) (now (rows .exit))
+        called (given r (now (first .exit)) (now (second .exit))) (now (counts .exit)) (now (rows .exit))
         (lent (now (out .exit)) (now (aux .exit)) (now (kept .exit)))
         ≡ ofCall (callOf (setup (settings instrument rate frames) (now (bank .entry)) (now (map .entry))) count (now (rows .entry))
         (lent (now (out .entry)) (now (aux .entry)) (now (kept .entry))) (insert position (note ∷ timbre ∷ morph ∷ harmonics ∷ restart ∷ []))) ⌝ }
@@ -247,6 +269,7 @@ pub extern "C" fn retake_insert(
     let v = values_of(answer);
     *first = v.first;
     *second = v.second;
+    *counts = counts_of(answer);
     v.number
 }
 
@@ -266,9 +289,10 @@ pub extern "C" fn retake_remove(
     kept: &mut [u32],
     first: &mut u64,
     second: &mut u64,
+    counts: &mut [u64; 5],
 ) -> u32
     ensures { λ r. ⌜
-        called (given r (now (first .exit)) (now (second .exit))) (now (rows .exit))
+        called (given r (now (first .exit)) (now (second .exit))) (now (counts .exit)) (now (rows .exit))
         (lent (now (out .exit)) (now (aux .exit)) (now (kept .exit)))
         ≡ ofCall (callOf (setup (settings instrument rate frames) (now (bank .entry)) (now (map .entry))) count (now (rows .entry))
         (lent (now (out .entry)) (now (aux .entry)) (now (kept .entry))) (remove position)) ⌝ }
@@ -288,5 +312,6 @@ pub extern "C" fn retake_remove(
     let v = values_of(answer);
     *first = v.first;
     *second = v.second;
+    *counts = counts_of(answer);
     v.number
 }

@@ -438,6 +438,6 @@ unfolding resultOf
 retakes s o c five =
     record {
       refuses = λ h. (ap (λ (x : Outcome). resultOf (x .answer)) (refused-is s o c h), next-refused s o c h);
-      unchanged = λ z w. (ap (λ (x : Outcome). resultOf (x .answer)) (unchanging-is s o c five w z), next-unchanging s o c five w z);
+      unchanged = λ z w. (ap (λ (x : Outcome). x .answer) (unchanging-is s o c five w z), next-unchanging s o c five w z);
       changed = λ z w. retaken s o c z five w;
     }

@@ -6,3 +6,4 @@ pub mod Moves
 pub mod Doing
 pub mod Retakes
 pub mod Inherits
+pub mod HoldKinds

@@ -1,6 +1,7 @@
 -- Demand 3: what is promised of an accepted whole rendering and of every list of calls after it, edits, insertions, removals and renderings; and
 -- before it, what a call does to any take. The calls are `callOf` of take · Take, to which the code is proved equal. Below: fresh rendering, lists
--- of calls, what a list is to leave, what one call does, and the claims: `Retakes` of any take, `Demand3`, `Inherited` of what every row has.
+-- of calls, what a list is to leave, what one call does, and the claims: `Retakes` of any take, `HoldKinds` of what any call reports, `Demand3`,
+-- `Inherited` of what every row has.
 use Prim.Native.Nat.{ℕ, zero, suc, _+_, _-_, _*_, _≤_, _<_}
 use mathlib.Core.List.{List, [], _∷_, _++_, map}
 use mathlib.Core.Bool.{Bool, true, cond}
@@ -13,11 +14,13 @@ use Rattle.utils.specs.Holds.{none, total}
 use Rattle.utils.specs.declared.holds.Holds.{Holds}
 use Rattle.voice.specs.declared.State.{State}
 use Rattle.voice.specs.Voice.{keptCount, voiceOf, keptWords, stateOf}
+use Rattle.voice.specs.HoldKinds.{KindsOn}
 use Rattle.score.specs.Rows.{rowWords, wordFor, restart, rowAt, putRow}
 use Rattle.score.specs.Limits.{rowWithin}
-use Rattle.score.specs.Numbers.{done, refused}
+use Rattle.score.specs.Numbers.{refused}
 use Rattle.score.specs.declared.refusal.Refusal.{Refusal}
-use Rattle.rows.specs.Rows.{Setup, Take, lent, freshStart, Row, rowFrom, rowBy, rowIn, wordsBefore}
+use Rattle.rows.specs.Rows.{Setup, Take, lent, freshStart, Row, rowFrom, rowBy, rowIn, wordsBefore, nothing}
+use Rattle.rows.specs.declared.Report.{Report}
 use Rattle.refusals.specs.Calls.{Call, render, edit, insert, remove, countAfter, position}
 use Rattle.refusals.specs.Refusals.{refusalOf}
 use Rattle.take.specs.declared.Answer.the-variants.{Done}
@@ -198,10 +201,10 @@ Unchanging o (insert p row) = ⊥
 Unchanging o (remove p) = ⊥
 
 -- A call is refused just where the table says so, "with number and place as the table says"; "An accepted edit that changes no word writes nothing
--- and reports 0 for both"; of every other accepted call `Changed` is true.
+-- and reports 0 for both", and five zeros; of every other accepted call `Changed` is true.
 pub record Right (s : Setup) (o : Reel) (c : Call) (Changed : Type 0) : Type 0 where
   pub refuses : (refusalIn s o c .number ≡ 0 → ⊥) → (resultOf (called s o c .answer) ≡ refused (refusalIn s o c)) × (next s o c ≡ o)
-  pub unchanged : refusalIn s o c .number ≡ 0 → Unchanging o c → (resultOf (called s o c .answer) ≡ done (0 ∷ 0 ∷ [])) × (next s o c ≡ o)
+  pub unchanged : refusalIn s o c .number ≡ 0 → Unchanging o c → (called s o c .answer ≡ Done nothing) × (next s o c ≡ o)
   pub changed : refusalIn s o c .number ≡ 0 → (Unchanging o c → ⊥) → Changed
 
 -- ---- Any take: "These rules hold for junk in out, aux and kept as well".
@@ -226,11 +229,18 @@ pub record Retaken (s : Setup) (o : Reel) (c : Call) : Type 0 where
 abbrev pub Retakes : Type 0
 Retakes = (s : Setup) (o : Reel) (c : Call) → Five c → Right s o c (Retaken s o c)
 
+-- ---- Kinds of holds.
+
+-- What any call reports, on any take: on the terrain voice `held` is map plus bank; on the others each count is at most `held`, and `held` at most
+-- their sum.
+abbrev pub HoldKinds : Type 0
+HoldKinds = (s : Setup) (o : Reel) (c : Call) (p : Report) → called s o c .answer ≡ Done p → KindsOn (voiceOf (s .instrument)) (p .holds)
+
 -- ---- Takes of a list.
 
 -- Where the take is that of a fresh rendering, "the smallest j .. where j is n, or row j restarts, or the fresh renderings of the score before and
 -- after this [call] keep the same 13 words" before row j, in the first of them where it came from; "and as `held` the sum over these rows in the
--- fresh rendering of the score after it".
+-- fresh rendering of the score after it"; so are the five counts "over the same rows".
 pub record FreshRetaken (s : Setup) (o : Reel) (c : Call) : Type 0 where
   pub stop : ℕ
   pub first : let o' = next s o c in

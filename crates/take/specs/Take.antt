@@ -5,6 +5,7 @@ use mathlib.Core.List.{List, [], _∷_}
 use mathlib.Core.Bool.{Bool, false, cond}
 use lib.Dec.{eqb}
 use Rattle.lists.specs.Lists.{same}
+use Rattle.utils.specs.declared.holds.Holds.{Holds}
 use Rattle.score.specs.Rows.{rowAt, removeRow}
 use Rattle.score.specs.Numbers.{Result, done, refused}
 use Rattle.score.specs.declared.refusal.Refusal.{Refusal}
@@ -14,9 +15,14 @@ use Rattle.refusals.specs.Refusals.{refusalOf}
 use Rattle.take.specs.declared.Answer.{Answer}
 use Rattle.take.specs.declared.Answer.the-variants.{Done, Refused}
 
--- Document 01's number and values for each case of an answer: "Success carries .. the rows rendered and `held` of just those rows".
+-- The five counts, in the order of document 02, N5: "phase, wave position (x or y), level (z), map or bank".
+abbrev pub countsOf : Holds → List ℕ
+countsOf h = h .phase ∷ h .«wave_position» ∷ h .level ∷ h .map ∷ h .bank ∷ []
+
+-- Document 01's number and values for each case of an answer: "Success carries .. the rows rendered and `held` of just those rows"; "Blocks,
+-- renderings, edits and splices carry the five counts, over the same rows as `held`."
 unfoldable pub resultOf : Answer → Result
-resultOf (Done report) = done (report .rows ∷ report .holds .held ∷ [])
+resultOf (Done report) = done (report .rows ∷ report .holds .held ∷ countsOf (report .holds))
 resultOf (Refused r) = refused r
 
 -- What a call answers, and the lent row words and the take as it leaves them.

@@ -1,4 +1,4 @@
--- Which layers there are: the map's is there only with a map. And a layer holds at most once.
+-- Which layers there are: the map's is there only with a map. And what a layer holds.
 use mathlib.Core.Path.{_≡_, refl}
 use mathlib.Core.Logic.{_⊎_, inl, inr}
 use mathlib.Core.Bool.{Bool, true, false, cond}
@@ -12,26 +12,25 @@ use lib.ListN.{length}
 use lib.Ieee.{Float}
 use Rattle.words.specs.Binary32.{_⊕_, _⊗_, decimal, ofCount}
 use Rattle.words.specs.Parts.{wholePart}
-use Rattle.utils.specs.Holds.{none, AtMost}
-use Rattle.utils.proofs.Sums.{most-none}
+use Rattle.utils.specs.Holds.{none, ofMap, ofBank, AtMost, OfReadings}
+use Rattle.utils.specs.declared.holds.Holds.{Holds}
+use Rattle.utils.proofs.Sums.{most-none, most-map, most-bank}
+use Rattle.utils.proofs.Summing.{readings-summed, map-kinds, bank-kinds}
 use Rattle.oscillator.specs.Bank.{waveLength, tableSizeF}
 use Rattle.terrain.specs.Layers.{Lent, top, topWithMap, layerTop}
 use Rattle.terrain.specs.Heights.{
+  Reading,
   mapLength,
   terrainSize,
   mapEdge,
-  mapHold,
   terrainLookup,
   numWaves,
   bankEdge,
-  bankHold,
   lastBankLayer,
   mapLayer,
   terrainLookupWt,
   terrainOf,
 }
-use Rattle.terrain.specs.declared.Reading.{Reading}
-use Rattle.terrain.proofs.Places.{held-most}
 
 either-top : (b : Bool) → cond b top topWithMap ≤ topWithMap
 either-top true = omega arith
@@ -58,43 +57,44 @@ map-there bank map i lent h l = pick (lent .map-long)
 pub none-of-four : (k i : ℕ) → k ≤ i → (i ≡ k → ⊥) → (i ≡ k + 1 → ⊥) → (i ≡ k + 2 → ⊥) → (i ≡ k + 3 → ⊥) → k + 4 ≤ i
 none-of-four k i h a b c d = omega arith
 
--- ---- at most one hold a layer
+-- ---- what a layer holds: nothing, or once the map or the bank
 
-one : AtMost 1 (record { held = 1 })
-one = record { held-most = omega arith }
+-- something that each of the three has
+module _ (P : Holds → Type 0) (of-none : P none) (of-map : P ofMap) (of-bank : P ofBank) where
+  either-held : (b : Bool) (hold : Holds) → P hold → P (cond b hold none)
+  either-held true hold p = p
+  either-held false hold p = of-none
 
-unheld-most : AtMost 1 none
-unheld-most = most-none 1
+  either-layer : (b : Bool) (r q : Reading) → P (r .holds) → P (q .holds) → P (cond b r q .holds)
+  either-layer true r q h l = h
+  either-layer false r q h l = l
 
-either-held : (b : Bool) (r q : Reading) → AtMost 1 (r .holds) → AtMost 1 (q .holds) → AtMost 1 (cond b r q .holds)
-either-held true r q h l = h
-either-held false r q h l = l
+  map-held : (map : List ℕ) (x y : Float) → P (terrainLookup map x y .holds)
+  unfolding terrainLookup
+  map-held map x y =
+      let coordScale = ofCount (terrainSize - 2) ⊗ decimal 5 1 in
+      either-held (ltb mapEdge (terrainSize * wholePart ((y ⊕ decimal 1 0) ⊗ coordScale) + wholePart ((x ⊕ decimal 1 0) ⊗ coordScale))) ofMap of-map
 
-map-held : (map : List ℕ) (x y : Float) → AtMost 1 (terrainLookup map x y .holds)
-unfolding terrainLookup
-map-held map x y =
-    let coordScale = ofCount (terrainSize - 2) ⊗ decimal 5 1 in
-    held-most (ltb mapEdge (terrainSize * wholePart ((y ⊕ decimal 1 0) ⊗ coordScale) + wholePart ((x ⊕ decimal 1 0) ⊗ coordScale)))
-    mapHold
-    one
+  bank-held : (bank : List ℤ) (x y : Float) (number : ℕ) → P (terrainLookupWt bank x y number .holds)
+  unfolding terrainLookupWt
+  bank-held bank x y number =
+      let sample = wholePart ((y ⊕ decimal 1 0) ⊗ decimal 5 1 ⊗ tableSizeF) in
+      let wt = wholePart ((x ⊕ decimal 1 0) ⊗ decimal 5 1 ⊗ ofCount (numWaves - 1)) in
+      either-held (ltb bankEdge (numWaves * waveLength * number + waveLength * wt + sample)) ofBank of-bank
 
-bank-held : (bank : List ℤ) (x y : Float) (number : ℕ) → AtMost 1 (terrainLookupWt bank x y number .holds)
-unfolding terrainLookupWt
-bank-held bank x y number =
-    let sample = wholePart ((y ⊕ decimal 1 0) ⊗ decimal 5 1 ⊗ tableSizeF) in
-    let wt = wholePart ((x ⊕ decimal 1 0) ⊗ decimal 5 1 ⊗ ofCount (numWaves - 1)) in
-    held-most (ltb bankEdge (numWaves * waveLength * number + waveLength * wt + sample)) bankHold one
+  pub terrain-has : (sine : List Float) (bank : List ℤ) (map : List ℕ) (x y : Float) (i : ℕ) → P (terrainOf sine bank map x y i .holds)
+  unfolding terrainOf
+  terrain-has sine bank map x y i =
+      either-layer (eqb i 0) _ _ of-none
+      (either-layer (eqb i 1) _ _ of-none
+      (either-layer (eqb i 2) _ _ of-none
+      (either-layer (eqb i 3) _ _ of-none
+      (either-layer (eqb i 4) _ _ of-none
+      (either-layer (leb i lastBankLayer) _ _ (bank-held bank x y (lastBankLayer - i))
+      (either-layer (eqb i mapLayer) _ _ (map-held map x y) of-none))))))
 
 pub terrain-held : (sine : List Float) (bank : List ℤ) (map : List ℕ) (x y : Float) (i : ℕ) → AtMost 1 (terrainOf sine bank map x y i .holds)
-unfolding terrainOf
-terrain-held sine bank map x y i =
-    either-held (eqb i 0) _ _ unheld-most
-    (either-held (eqb i 1) _ _ unheld-most
-    (either-held (eqb i 2) _ _ unheld-most
-    (either-held (eqb i 3) _ _ unheld-most
-    (either-held (eqb i 4) _ _ unheld-most
-    (either-held (leb i lastBankLayer) _ _ (bank-held bank x y (lastBankLayer - i))
-    (either-held (eqb i mapLayer) _ _ (map-held map x y) unheld-most))))))
+terrain-held = terrain-has (AtMost 1) (most-none 1) most-map most-bank
 
-pub reading-held : (r : Reading) (sine : List Float) (bank : List ℤ) (map : List ℕ) (x y : Float) (i : ℕ) → r ≡ terrainOf sine bank map x y i → AtMost 1 (r .holds)
-reading-held r sine bank map x y i e = rw e (terrain-held sine bank map x y i)
+pub terrain-kinds : (sine : List Float) (bank : List ℤ) (map : List ℕ) (x y : Float) (i : ℕ) → OfReadings (terrainOf sine bank map x y i .holds)
+terrain-kinds = terrain-has OfReadings (readings-summed .of-none) map-kinds bank-kinds

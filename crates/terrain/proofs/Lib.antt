@@ -2,3 +2,4 @@
 pub mod Bench
 pub mod Layers
 pub mod Places
+pub mod Tallies

@@ -1,4 +1,5 @@
 -- A place is at most its edge, and it is the same for whole parts that are cut off above every edge: then both sums are past the edge, or they are one.
+-- What it held is counted by its number.
 use mathlib.Core.Path.{_≡_, refl, sym, ap, _∙_, subst}
 use mathlib.Core.Logic.{_⊎_, inl, inr}
 use mathlib.Core.Bool.{Bool, true, false, cond}
@@ -11,30 +12,41 @@ use lib.Ieee.{Float, mul, ofInt, round}
 use Rattle.words.specs.Binary32.{_⊖_, _⊗_, decimal, ofCount}
 use Rattle.words.specs.Parts.{wholePart, wholeFloat, partOf}
 use Rattle.words.specs.declared.Part.{Part}
-use Rattle.utils.specs.Holds.{none, AtMost}
+use Rattle.utils.specs.Holds.{none, ofMap, ofBank}
 use Rattle.utils.specs.declared.holds.Holds.{Holds}
-use Rattle.utils.proofs.Sums.{most-none}
 use Rattle.oscillator.specs.Bank.{waveLength}
-use Rattle.terrain.specs.Heights.{heldPlace, terrainSize, mapEdge, mapHold, mapPlace, numWaves, bankEdge, bankHold, bankPlace}
+use Rattle.terrain.specs.Heights.{Start, heldPlace, terrainSize, mapEdge, mapPlace, numWaves, bankEdge, bankPlace}
 use Rattle.terrain.specs.Reach.{reach}
+use Rattle.terrain.specs.Tally.{tally}
 use Rattle.terrain.specs.declared.Place.{Place}
 
-pub place-past : (hold : Holds) (edge flat : ℕ) → edge < flat → heldPlace hold edge flat ≡ record { flat = edge; holds = hold }
+-- a place as code has it, where a hold counts as that number
+abbrev pub placeBy : ℕ → ℕ → ℕ → Place
+placeBy hold edge flat = record { flat = min flat edge; held = cond (ltb edge flat) hold 0 }
+
+pub place-past : (hold edge flat : ℕ) → edge < flat → placeBy hold edge flat ≡ record { flat = edge; held = hold }
 place-past hold edge flat h = rw (lt-ltb edge flat h, min-eq-right {n = edge} {m = flat} (omega arith))
 
-pub place-within : (hold : Holds) (edge flat : ℕ) → flat ≤ edge → heldPlace hold edge flat ≡ record { flat = flat; holds = none }
+pub place-within : (hold edge flat : ℕ) → flat ≤ edge → placeBy hold edge flat ≡ record { flat = flat; held = 0 }
 place-within hold edge flat h = rw (le-ltb edge flat h, min-eq-left h)
 
-pub place-most : (r : Place) (hold : Holds) (edge flat : ℕ) → r ≡ heldPlace hold edge flat → r .flat ≤ edge
+pub place-most : (r : Place) (hold edge flat : ℕ) → r ≡ placeBy hold edge flat → r .flat ≤ edge
 place-most r hold edge flat e = subst (λ (p : Place). p .flat ≤ edge) (sym e) (min-le-right flat edge)
 
-pub held-most : (b : Bool) (hold : Holds) → AtMost 1 hold → AtMost 1 (cond b hold none)
-held-most true hold p = p
-held-most false hold p = most-none 1
-
-same-place : (hold : Holds) (edge s t : ℕ) → (s ≡ t) ⊎ ((edge < s) × (edge < t)) → heldPlace hold edge s ≡ heldPlace hold edge t
-same-place hold edge s t (inl e) = ap (heldPlace hold edge) e
+same-place : (hold edge s t : ℕ) → (s ≡ t) ⊎ ((edge < s) × (edge < t)) → placeBy hold edge s ≡ placeBy hold edge t
+same-place hold edge s t (inl e) = ap (placeBy hold edge) e
 same-place hold edge s t (inr h) = place-past hold edge s (h .0) ∙ sym (place-past hold edge t (h .1))
+
+-- what a place held, so counted
+abbrev pub placed : Start → Place
+placed s = record { flat = s .flat; held = tally (s .holds) }
+
+placed-is : (hold : Holds) (edge flat : ℕ) → placeBy (tally hold) edge flat ≡ placed (heldPlace hold edge flat)
+placed-is hold edge flat = ap (λ (n : ℕ). record { flat = min flat edge; held = n }) (either (ltb edge flat))
+  where
+    either : (b : Bool) → cond b (tally hold) 0 ≡ tally (cond b hold none)
+    either true = refl
+    either false = refl
 
 cut : (far a : ℕ) → (min a far ≡ a) ⊎ ((min a far ≡ far) × (far < a))
 cut far a = go (ltb far a) refl
@@ -43,11 +55,17 @@ cut far a = go (ltb far a) refl
     go true q = let l : far < a = ltb-true far a q in inr (min-eq-right {n = far} {m = a} (omega arith), l)
     go false q = inl (min-eq-left (ltb-false far a q))
 
-map-place-cut : (x y : ℕ) → mapPlace (min x reach) (min y reach) ≡ mapPlace x y
-map-place-cut x y = same-place mapHold mapEdge (flat (min x reach) (min y reach)) (flat x y) (pick (cut reach x) (cut reach y))
+abbrev mapFlat : ℕ → ℕ → ℕ
+mapFlat x y = terrainSize * y + x
+
+abbrev bankFlat : ℕ → ℕ → ℕ → ℕ
+bankFlat number x y = numWaves * waveLength * number + waveLength * x + y
+
+map-place-cut : (hold x y : ℕ) → placeBy hold mapEdge (mapFlat (min x reach) (min y reach)) ≡ placeBy hold mapEdge (mapFlat x y)
+map-place-cut hold x y = same-place hold mapEdge (flat (min x reach) (min y reach)) (flat x y) (pick (cut reach x) (cut reach y))
   where
     flat : ℕ → ℕ → ℕ
-    flat x' y' = terrainSize * y' + x'
+    flat = mapFlat
 
     pick : (min x reach ≡ x) ⊎ ((min x reach ≡ reach) × (reach < x)) → (min y reach ≡ y) ⊎ ((min y reach ≡ reach) × (reach < y))
         → (flat (min x reach) (min y reach) ≡ flat x y) ⊎ ((mapEdge < flat (min x reach) (min y reach)) × (mapEdge < flat x y))
@@ -55,11 +73,11 @@ map-place-cut x y = same-place mapHold mapEdge (flat (min x reach) (min y reach)
     pick (inl e) (inr f) = inr (omega arith)
     pick (inr e) f = inr (omega arith)
 
-bank-place-cut : (number x y : ℕ) → bankPlace number (min x reach) (min y reach) ≡ bankPlace number x y
-bank-place-cut number x y = same-place bankHold bankEdge (flat (min x reach) (min y reach)) (flat x y) (pick (cut reach x) (cut reach y))
+bank-place-cut : (hold number x y : ℕ) → placeBy hold bankEdge (bankFlat number (min x reach) (min y reach)) ≡ placeBy hold bankEdge (bankFlat number x y)
+bank-place-cut hold number x y = same-place hold bankEdge (flat (min x reach) (min y reach)) (flat x y) (pick (cut reach x) (cut reach y))
   where
     flat : ℕ → ℕ → ℕ
-    flat x' y' = numWaves * waveLength * number + waveLength * x' + y'
+    flat = bankFlat number
 
     pick : (min x reach ≡ x) ⊎ ((min x reach ≡ reach) × (reach < x)) → (min y reach ≡ y) ⊎ ((min y reach ≡ reach) × (reach < y))
         → (flat (min x reach) (min y reach) ≡ flat x y) ⊎ ((bankEdge < flat (min x reach) (min y reach)) × (bankEdge < flat x y))
@@ -67,12 +85,12 @@ bank-place-cut number x y = same-place bankHold bankEdge (flat (min x reach) (mi
     pick (inl e) (inr f) = inr (omega arith)
     pick (inr e) f = inr (omega arith)
 
-pub map-place-of : (r : Place) (cx cy x y : ℕ) → r ≡ heldPlace mapHold mapEdge (terrainSize * cy + cx) → cx ≡ min x reach → cy ≡ min y reach → r ≡ mapPlace x y
-map-place-of r cx cy x y e f g = e ∙ rw (f, g) (map-place-cut x y)
+pub map-place-of : (r : Place) (cx cy x y : ℕ) → r ≡ placeBy (tally ofMap) mapEdge (mapFlat cx cy) → cx ≡ min x reach → cy ≡ min y reach → r ≡ placed (mapPlace x y)
+map-place-of r cx cy x y e f g = e ∙ rw (f, g) (map-place-cut (tally ofMap) x y) ∙ placed-is ofMap mapEdge (mapFlat x y)
 
 pub bank-place-of : (r : Place) (number cx cy x y : ℕ)
-    → r ≡ heldPlace bankHold bankEdge (numWaves * waveLength * number + waveLength * cx + cy) → cx ≡ min x reach → cy ≡ min y reach → r ≡ bankPlace number x y
-bank-place-of r number cx cy x y e f g = e ∙ rw (f, g) (bank-place-cut number x y)
+    → r ≡ placeBy (tally ofBank) bankEdge (bankFlat number cx cy) → cx ≡ min x reach → cy ≡ min y reach → r ≡ placed (bankPlace number x y)
+bank-place-of r number cx cy x y e f g = e ∙ rw (f, g) (bank-place-cut (tally ofBank) number x y) ∙ placed-is ofBank bankEdge (bankFlat number x y)
 
 -- a whole part that is not cut off leaves its fraction
 pub fraction-within : (far : ℕ) (x : Float) (r : Part) → r ≡ partOf far x → r .held ≡ false → r .fraction ≡ x ⊖ wholeFloat x

@@ -8,7 +8,7 @@ use lib.Ieee.{Float}
 use Rattle.words.specs.Binary32.{_⊕_, _⊖_, _⊗_, _⊘_, decimal, ofCount}
 use Rattle.words.specs.Parts.{wholePart, wholeFloat}
 use Rattle.utils.specs.Utils.{absOf}
-use Rattle.utils.specs.Holds.{none}
+use Rattle.utils.specs.Holds.{none, ofMap, ofBank}
 use Rattle.utils.specs.declared.holds.Holds.{Holds}
 use Rattle.oscillator.specs.Bank.{waveLength, tableSizeF}
 use Rattle.oscillator.specs.Readings.{
@@ -18,8 +18,6 @@ use Rattle.oscillator.specs.Readings.{
   interpolateIntegratedWave,
 }
 use Rattle.sine_oscillator.specs.Sine.{sineOf}
-use Rattle.terrain.specs.declared.Place.{Place}
-use Rattle.terrain.specs.declared.Reading.{Reading}
 
 -- `squash` of this engine.
 abbrev pub squashOf : Float → Float → Float
@@ -58,8 +56,18 @@ module _ (sine : List Float) (x y : Float) where
 
 -- ---- Readings of the lent map and bank.
 
+-- What a reading gives: "Each reading should say what it held".
+pub record Reading : Type 0 where
+  pub value : Float
+  pub holds : Holds
+
+-- Where a reading starts, and what was held there.
+pub record Start : Type 0 where
+  pub flat : ℕ
+  pub holds : Holds
+
 -- "Where the Rust would read past the end, flat is held, and that reading adds 1 to `held`."
-abbrev pub heldPlace : Holds → ℕ → ℕ → Place
+abbrev pub heldPlace : Holds → ℕ → ℕ → Start
 heldPlace hold edge flat = record { flat = min flat edge; holds = cond (ltb edge flat) hold none }
 
 -- A map has "4,096 bytes, 64 rows of 64"; "flat is held at 4,030 (map)".
@@ -72,12 +80,9 @@ terrainSize = 64
 abbrev pub mapEdge : ℕ
 mapEdge = 4030
 
-abbrev pub mapHold : Holds
-mapHold = record { held = 1 }
-
 -- "Map reading: flat = 64 times y's whole part plus x's".
-abbrev pub mapPlace : ℕ → ℕ → Place
-mapPlace x y = heldPlace mapHold mapEdge (terrainSize * y + x)
+abbrev pub mapPlace : ℕ → ℕ → Start
+mapPlace x y = heldPlace ofMap mapEdge (terrainSize * y + x)
 
 -- `terrain_lookup`: "it reads flat, +1, +64, +65", "fractions untouched".
 unfoldable pub terrainLookup : List ℕ → Float → Float → Reading
@@ -100,12 +105,9 @@ numWaves = 64
 abbrev pub bankEdge : ℕ
 bankEdge = 25209
 
-abbrev pub bankHold : Holds
-bankHold = record { held = 1 }
-
 -- "Bank reading: flat = 8448 times (7 - layer) + 132 times x's whole part + y's".
-abbrev pub bankPlace : ℕ → ℕ → ℕ → Place
-bankPlace number x y = heldPlace bankHold bankEdge (numWaves * waveLength * number + waveLength * x + y)
+abbrev pub bankPlace : ℕ → ℕ → ℕ → Start
+bankPlace number x y = heldPlace ofBank bankEdge (numWaves * waveLength * number + waveLength * x + y)
 
 -- `terrain_lookup_wt`: "it reads flat to +2 and +132 to +134"; "x picks the wave and y the sample".
 unfoldable pub terrainLookupWt : List ℤ → Float → Float → ℕ → Reading

@@ -1,3 +1,4 @@
 pub mod Heights
 pub mod Layers
 pub mod Reach
+pub mod Tally

@@ -1,14 +1,17 @@
 // The terrains: how many there are, and their height at a point.
 // Based on MIT-licensed code (c) 2021 by Emilie Gillet (emilie.o.gillet@gmail.com)
 ghost use mathlib.Core.Path.{_≡_};
+ghost use mathlib.Core.Bool.{cond};
 ghost use Prim.Native.Nat.{_+_, _≤_, min};
+ghost use lib.Dec.{ltb};
 ghost use lib.ListN.{length};
 ghost use Rattle.words.specs.Binary32.{_⊖_};
 ghost use Rattle.words.specs.Parts.{wholePart, wholeFloat};
 ghost use Rattle.oscillator.specs.Bank.{bankLength};
 ghost use Rattle.terrain.specs.Layers.{Lent, numTerrains, layerTop};
 ghost use Rattle.terrain.specs.Reach.{reach};
-ghost use Rattle.terrain.specs.Heights.{mapLength, squashOf, terrain0, terrain1, terrain2, terrain3, terrain4, heldPlace, terrainLookup, terrainLookupWt, unheld, terrainOf};
+ghost use Rattle.terrain.specs.Tally.{counted, holdsBy};
+ghost use Rattle.terrain.specs.Heights.{mapLength, squashOf, terrain0, terrain1, terrain2, terrain3, terrain4, terrainLookup, terrainLookupWt, unheld, terrainOf};
 use oscillator::bank::TABLE_SIZE_F;
 use oscillator::bank::WAVE_LENGTH;
 use oscillator::wavetable_oscillator::interpolate_integrated_wave;
@@ -16,16 +19,16 @@ use oscillator::wavetable_oscillator::interpolate_wave_u8;
 use sine_oscillator::sine::sine;
 use utils::holds::Holds;
 
-// A height, and what its reading held.
-pub struct Reading {
+// A height, and what its reading held, in one number: 0, or MAP_HELD or BANK_HELD. So a loop over readings has one addition for all counts.
+pub struct Height {
     pub value: f32,
-    pub holds: Holds,
+    pub held: u32,
 }
 
 // Where a reading starts, and what was held there.
-pub struct Place {
-    pub flat: usize,
-    pub holds: Holds,
+struct Place {
+    flat: usize,
+    held: u32,
 }
 
 // A coordinate of a reading: its whole part, as far as that decides, and its fraction.
@@ -56,6 +59,11 @@ pub const TOP_WITH_MAP: usize = 7;
 pub const MAP_EDGE: usize = 4030;
 
 pub const BANK_EDGE: usize = 25209;
+
+// A held reading of the map and of the bank, as numbers of which some thousands can be summed.
+const MAP_HELD: u32 = 65536;
+
+const BANK_HELD: u32 = 1;
 
 // Where the whole part of a coordinate is cut off: above every edge.
 const REACH: usize = 65535;
@@ -138,73 +146,65 @@ fn coordinate_at(x: f32) -> Coordinate
 }
 
 // `flat`, held at an edge, where that counts as `hold`.
-fn held_place(hold: Holds, edge: usize, flat: usize) -> Place
-    ensures { λ r. ⌜ r ≡ heldPlace hold edge flat ⌝ }
+fn held_place(hold: u32, edge: usize, flat: usize) -> Place
+    ensures { λ r. ⌜ r ≡ record { flat = min flat edge; held = cond (ltb edge flat) hold 0 } ⌝ }
 {
     if flat > edge {
         Place {
             flat: edge,
-            holds: hold,
+            held: hold,
         }
     } else {
-        Place {
-            flat,
-            holds: Holds { held: 0 },
-        }
+        Place { flat, held: 0 }
     }
 }
 
 // The map's height at a point.
-fn terrain_lookup(map: &[u8], x: f32, y: f32) -> Reading
+fn terrain_lookup(map: &[u8], x: f32, y: f32) -> Height
     requires { ⌜ length (now map) ≡ mapLength ⌝ }
-    ensures { λ r. ⌜ r ≡ terrainLookup (now (map .entry)) x y ⌝ }
+    ensures { λ r. ⌜ r ≡ counted (terrainLookup (now (map .entry)) x y) ⌝ }
 {
     let cx = coordinate_at((x + 1.0) * COORD_SCALE);
     let cy = coordinate_at((y + 1.0) * COORD_SCALE);
     let place = held_place(
-        Holds { held: 1 },
+        MAP_HELD,
         MAP_EDGE,
         TERRAIN_SIZE * cy.whole + cx.whole,
     );
     let near = interpolate_wave_u8(map, place.flat, cx.fraction);
     let far = interpolate_wave_u8(map, place.flat + TERRAIN_SIZE, cx.fraction);
-    let holds = place.holds;
-    Reading {
+    Height {
         value: (near + (far - near) * cy.fraction) * (1.0 / 128.0),
-        holds,
+        held: place.held,
     }
 }
 
 // Lookup from the wavetable data re-interpreted as a terrain. :facepalm:
 // `number` picks one of the three terrains in the bank.
-fn terrain_lookup_wt(bank: &[i16], x: f32, y: f32, number: usize) -> Reading
+fn terrain_lookup_wt(bank: &[i16], x: f32, y: f32, number: usize) -> Height
     requires { ⌜ (length (now bank) ≡ bankLength) × (number ≤ 2) ⌝ }
-    ensures { λ r. ⌜ r ≡ terrainLookupWt (now (bank .entry)) x y number ⌝ }
+    ensures { λ r. ⌜ r ≡ counted (terrainLookupWt (now (bank .entry)) x y number) ⌝ }
 {
     let sample = coordinate_at((y + 1.0) * 0.5 * TABLE_SIZE_F);
     let wt = coordinate_at((x + 1.0) * 0.5 * LAST_WAVE);
     let place = held_place(
-        Holds { held: 1 },
+        BANK_HELD,
         BANK_EDGE,
         NUM_WAVES * WAVE_LENGTH * number + WAVE_LENGTH * wt.whole + sample.whole,
     );
     let near = interpolate_integrated_wave(bank, place.flat, sample.fraction);
     let far = interpolate_integrated_wave(bank, place.flat + WAVE_LENGTH, sample.fraction);
-    let holds = place.holds;
-    Reading {
+    Height {
         value: (near + (far - near) * wt.fraction) * (1.0 / 1024.0),
-        holds,
+        held: place.held,
     }
 }
 
 // A height that no reading gives.
-fn unheld(value: f32) -> Reading
-    ensures { λ r. ⌜ r ≡ unheld value ⌝ }
+fn unheld(value: f32) -> Height
+    ensures { λ r. ⌜ r ≡ counted (unheld value) ⌝ }
 {
-    Reading {
-        value,
-        holds: Holds { held: 0 },
-    }
+    Height { value, held: 0 }
 }
 
 // The height of a layer: 0 to 7, and 8 with a map.
@@ -215,10 +215,10 @@ pub fn terrain(
     x: f32,
     y: f32,
     terrain_index: usize,
-) -> Reading
+) -> Height
     requires { ⌜ Lent (now bank) (now map) ⌝ }
     requires { ⌜ «terrain_index» ≤ layerTop (now map) + 1 ⌝ }
-    ensures { λ r. ⌜ r ≡ terrainOf (now (table .entry)) (now (bank .entry)) (now (map .entry)) x y «terrain_index» ⌝ }
+    ensures { λ r. ⌜ r ≡ counted (terrainOf (now (table .entry)) (now (bank .entry)) (now (map .entry)) x y «terrain_index») ⌝ }
 {
     match terrain_index {
         0 => unheld(terrain_0(table, x, y)),
@@ -230,6 +230,22 @@ pub fn terrain(
         6 => terrain_lookup_wt(bank, x, y, 1),
         7 => terrain_lookup_wt(bank, x, y, 0),
         _ => terrain_lookup(map, x, y),
+    }
+}
+
+// The holds of readings, by the sum of their numbers.
+pub fn holds_of(held: u32) -> Holds
+    ensures { λ r. ⌜ r ≡ holdsBy held ⌝ }
+{
+    let map = (held / MAP_HELD) as usize;
+    let bank = (held % MAP_HELD) as usize;
+    Holds {
+        held: map + bank,
+        phase: 0,
+        wave_position: 0,
+        level: 0,
+        map,
+        bank,
     }
 }
 

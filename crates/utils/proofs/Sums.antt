@@ -1,15 +1,31 @@
--- Holds are summed by one law, for frames, rows and calls: the total of two lists is the sum of their totals. Each law goes by the record's fields.
+-- Holds are summed by one law, for frames, rows and calls: the total of two lists is the sum of their totals. Each law goes by the record's fields,
+-- all six in one sentence of arithmetic.
 use mathlib.Core.Path.{_≡_, sym, ap, _∙_}
 use mathlib.Core.Bool.{Bool, true, false}
 use mathlib.Core.List.{List, [], _∷_, _++_}
 use Prim.Native.Nat.{ℕ, _+_, _≤_}
 use native.Mathlib.Omega.{arith}
-use Rattle.utils.specs.Holds.{none, ofFrame, plus, total, AtMost}
+use Rattle.utils.specs.Holds.{none, ofFrame, ofMap, ofBank, plus, total, AtMost, OfFrames, OfReadings}
 use Rattle.utils.specs.declared.holds.Holds.{Holds}
 
 -- two records of the same counts
-same-counts : (a b : Holds) → a .held ≡ b .held → a ≡ b
-same-counts a b e = ap (λ (n : ℕ). record { held = n }) e
+abbrev Same : Holds → Holds → Type 0
+Same a b =
+    (a .held ≡ b .held)
+    × ((a .phase ≡ b .phase)
+    × ((a .«wave_position» ≡ b .«wave_position») × ((a .level ≡ b .level) × ((a .map ≡ b .map) × (a .bank ≡ b .bank)))))
+
+abbrev holds : ℕ → ℕ → ℕ → ℕ → ℕ → ℕ → Holds
+holds a b c d e f = record { held = a; phase = b; «wave_position» = c; level = d; map = e; bank = f }
+
+pub same-counts : (a b : Holds) → Same a b → a ≡ b
+same-counts a b s =
+    ap (λ (n : ℕ). holds n (a .phase) (a .«wave_position») (a .level) (a .map) (a .bank)) (s .0)
+    ∙ ap (λ (n : ℕ). holds (b .held) n (a .«wave_position») (a .level) (a .map) (a .bank)) (s .1 .0)
+    ∙ ap (λ (n : ℕ). holds (b .held) (b .phase) n (a .level) (a .map) (a .bank)) (s .1 .1 .0)
+    ∙ ap (λ (n : ℕ). holds (b .held) (b .phase) (b .«wave_position») n (a .map) (a .bank)) (s .1 .1 .1 .0)
+    ∙ ap (λ (n : ℕ). holds (b .held) (b .phase) (b .«wave_position») (b .level) n (a .bank)) (s .1 .1 .1 .1 .0)
+    ∙ ap (λ (n : ℕ). holds (b .held) (b .phase) (b .«wave_position») (b .level) (b .map) n) (s .1 .1 .1 .1 .1)
 
 pub plus-none : (a : Holds) → plus a none ≡ a
 unfolding plus
@@ -41,16 +57,42 @@ total-snoc l h = total-append l (h ∷ []) ∙ ap (plus (total l)) (plus-none h)
 
 -- ---- bounds add up
 
-pub most-none : (n : ℕ) → AtMost n none
-most-none n = record { held-most = omega arith }
+most-of : {n : ℕ} {h : Holds}
+    → (h .held ≤ n) × ((h .phase ≤ n) × ((h .«wave_position» ≤ n) × ((h .level ≤ n) × ((h .map ≤ n) × (h .bank ≤ n)))))
+    → AtMost n h
+most-of p =
+    record {
+      held-most = p .0;
+      phase-most = p .1 .0;
+      position-most = p .1 .1 .0;
+      level-most = p .1 .1 .1 .0;
+      map-most = p .1 .1 .1 .1 .0;
+      bank-most = p .1 .1 .1 .1 .1;
+    }
 
-pub most-frame : (held : Bool) → AtMost 1 (ofFrame held)
-most-frame true = record { held-most = omega arith }
-most-frame false = most-none 1
+pub most-none : (n : ℕ) → AtMost n none
+most-none n = most-of (omega arith)
+
+pub most-map : AtMost 1 ofMap
+most-map = most-of (omega arith)
+
+pub most-bank : AtMost 1 ofBank
+most-bank = most-of (omega arith)
+
+pub most-frame : (phase position level : Bool) → AtMost 1 (ofFrame phase position level)
+unfolding ofFrame
+most-frame true true true = most-of (omega arith)
+most-frame true true false = most-of (omega arith)
+most-frame true false true = most-of (omega arith)
+most-frame true false false = most-of (omega arith)
+most-frame false true true = most-of (omega arith)
+most-frame false true false = most-of (omega arith)
+most-frame false false true = most-of (omega arith)
+most-frame false false false = most-none 1
 
 pub most-more : {m n : ℕ} {h : Holds} → m ≤ n → AtMost m h → AtMost n h
-most-more l p = record { held-most = omega (arith, p .held-most) }
+most-more l p = most-of (omega (arith, p))
 
 pub most-plus : {m n : ℕ} {a b : Holds} → AtMost m a → AtMost n b → AtMost (m + n) (plus a b)
 unfolding plus
-most-plus p q = record { held-most = omega (arith, p .held-most, q .held-most) }
+most-plus p q = most-of (omega (arith, p, q))

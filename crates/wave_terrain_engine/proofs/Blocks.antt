@@ -22,6 +22,7 @@ use Rattle.utils.specs.declared.engine.EngineParameters.{EngineParameters}
 use Rattle.sine_oscillator.specs.Path.{pathRun, pathRun2, pathAfter}
 use Rattle.sine_oscillator.specs.Sine.{sineOf}
 use Rattle.sine_oscillator.specs.declared.FastSineOscillator.{FastSineOscillator}
+use Rattle.terrain.specs.Heights.{Reading}
 use Rattle.terrain.specs.Layers.{layerTop}
 use Rattle.wave_terrain_engine.specs.declared.WaveTerrainEngine.{WaveTerrainEngine}
 use Rattle.wave_terrain_engine.specs.Block.{
@@ -41,7 +42,6 @@ use Rattle.wave_terrain_engine.specs.Block.{
 }
 use Rattle.wave_terrain_engine.specs.Stages.{stageX, stageLayer, stageFraction, stageHeight, stageZ, stageOut, stagePhase, stageAux, FramesDone}
 use Rattle.wave_terrain_engine.specs.declared.frames.Interpolators.{Interpolators}
-use Rattle.terrain.specs.declared.Reading.{Reading}
 use Rattle.wave_terrain_engine.proofs.Counts.{count-pairs}
 
 -- a layer and the next one, or the same, are within

@@ -3,3 +3,4 @@ pub mod Blocks
 pub mod Constants
 pub mod Counts
 pub mod Shifts
+pub mod BlockKinds

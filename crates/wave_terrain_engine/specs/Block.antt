@@ -17,9 +17,8 @@ use Rattle.utils.specs.declared.holds.Holds.{Holds}
 use Rattle.utils.specs.declared.engine.EngineParameters.{EngineParameters}
 use Rattle.sine_oscillator.specs.Path.{pathFresh, pathRun, pathRun2, pathAfter}
 use Rattle.sine_oscillator.specs.Sine.{sineOf}
-use Rattle.terrain.specs.Heights.{terrainOf}
+use Rattle.terrain.specs.Heights.{Reading, terrainOf}
 use Rattle.terrain.specs.Layers.{numTerrains, layerTop}
-use Rattle.terrain.specs.declared.Reading.{Reading}
 use Rattle.wave_terrain_engine.specs.declared.frames.Interpolators.{Interpolators}
 use Rattle.wave_terrain_engine.specs.declared.WaveTerrainEngine.{WaveTerrainEngine}
 

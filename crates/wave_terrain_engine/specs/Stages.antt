@@ -7,12 +7,12 @@ use lib.ListN.{length, getD}
 use lib.Ieee.{Float, nan, binary32, toBits}
 use Rattle.utils.specs.Holds.{AtMost}
 use Rattle.utils.specs.Frames.{stateAfter}
+use Rattle.utils.specs.Rendered.{mostFrames}
 use Rattle.utils.specs.declared.holds.Holds.{Holds}
 use Rattle.sine_oscillator.specs.Sine.{sineOf}
-use Rattle.terrain.specs.Heights.{terrainOf}
+use Rattle.terrain.specs.Heights.{Reading, terrainOf}
 use Rattle.wave_terrain_engine.specs.Block.{oversampling, interpolatorsNext, offsetOf, layerOf, shiftedX, between, outOf, phaseOf, framesOut, framesAux, framesHolds}
 use Rattle.wave_terrain_engine.specs.declared.frames.Interpolators.{Interpolators}
-use Rattle.terrain.specs.declared.Reading.{Reading}
 
 -- x of oversample j.
 abbrev pub stageX : List Float → Interpolators → ℕ → Float
@@ -45,8 +45,9 @@ module _ (ys fractions z0s z1s : List Float) where
 abbrev pub stageAux : List Float → List Float → ℕ → ℕ
 stageAux sine phases i = toBits binary32 (sineOf sine (getD phases i nan))
 
--- Room for the oversamples and the frames of n frames.
+-- Room for the oversamples and the frames of n frames, which are few.
 pub record Room (n : ℕ) (run run2 xs z1s : List Float) (layers : List ℕ) (fractions : List Float) : Type 0 where
+  pub few-frames : n ≤ mostFrames
   pub run-room : n * oversampling ≤ length run
   pub run2-room : n * oversampling ≤ length run2
   pub xs-room : n * oversampling ≤ length xs

@@ -6,6 +6,7 @@ ghost use lib.ListN.{length, getD, take};
 ghost use lib.Ieee.{nan};
 ghost use Rattle.utils.specs.Holds.{AtMost};
 ghost use Rattle.utils.specs.Frames.{stateAfter, sumOf, Filled};
+ghost use Rattle.utils.specs.Rendered.{runLength};
 ghost use Rattle.terrain.specs.Layers.{Lent, topWithMap, layerTop};
 ghost use Rattle.wave_terrain_engine.specs.Block.{oversampling, interpolatorsNext, shiftedX, between, outOf, phaseOf};
 ghost use Rattle.wave_terrain_engine.specs.Stages.{stageX, stageLayer, stageFraction, stageHeight, stageOut, stagePhase, stageAux, Room, FramesDone};
@@ -92,6 +93,7 @@ pub fn heights(
     zs: &mut [f32],
 ) -> Holds
     requires { ⌜ Lent (now bank) (now map) ⌝ }
+    requires { ⌜ n ≤ runLength ⌝ }
     requires { ⌜ (n ≤ length (now xs)) × ((n ≤ length (now ys)) × ((n ≤ length (now layers) * oversampling) × (n ≤ length (now zs)))) ⌝ }
     requires { ⌜ ((j : ℕ) → j < n → getD (now layers) (j / oversampling) 0 + up ≤ layerTop (now map) + 1) ⌝ }
     ensures { λ r. ⌜ AtMost n r ⌝ }
@@ -99,16 +101,16 @@ pub fn heights(
     ensures { λ _. ⌜ Filled (λ (j : ℕ). stageHeight (now (table .entry)) (now (bank .entry)) (now (map .entry)) (now (xs .entry)) (now (ys .entry)) (now (layers .entry)) up j .value)
         nan (now (zs .exit)) n ⌝ }
 {
-    let mut holds = utils::holds::none();
+    let mut held = 0;
     let mut i = 0;
     while i < n {
         let layer = layers[i / OVERSAMPLING] as usize;
         let z = terrain(table, bank, map, xs[i], ys[i], layer + up);
         zs[i] = z.value;
-        holds = utils::holds::plus(holds, z.holds);
+        held += z.held;
         i += 1;
     }
-    holds
+    terrain::holds_of(held)
 }
 
 // From one height to the next layer's.

@@ -3,3 +3,4 @@ pub mod Differentiating
 pub mod Walking
 pub mod Keys
 pub mod Composed
+pub mod BlockKinds

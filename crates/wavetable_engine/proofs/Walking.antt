@@ -30,7 +30,7 @@ parts-fit p s e =
 
 pub frame-most : (p : Parts) → AtMost 1 (holdsOf p)
 unfolding holdsOf
-frame-most p = most-frame (p .x .held || p .y .held || p .z .held || p .phase .held)
+frame-most p = most-frame (p .phase .held) (p .x .held || p .y .held) (p .z .held)
 
 -- what the frame that begins with s holds
 abbrev pub holdsAt : Float → Positions → Holds

@@ -96,9 +96,9 @@ partsOf s =
       phase = partOf phaseTop (s .phase ⊗ tableSizeF);
     }
 
--- "A frame with any hold adds 1 to `held`."
+-- What a frame holds: "phase, wave position (x or y), level (z)".
 unfoldable pub holdsOf : Parts → Holds
-holdsOf p = ofFrame (p .x .held || p .y .held || p .z .held || p .phase .held)
+holdsOf p = ofFrame (p .phase .held) (p .x .held || p .y .held) (p .z .held)
 
 -- What a frame reads: its corners, folded by the fractions of x, y and z.
 unfoldable pub reading : List ℤ → Parts → Float

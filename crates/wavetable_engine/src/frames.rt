@@ -74,11 +74,11 @@ fn parts_of(s: Positions) -> Parts
     }
 }
 
-// 1 for a frame with any hold.
+// What a frame holds: phase, wave position and level.
 fn held(p: Parts) -> Holds
     ensures { λ r. ⌜ r ≡ holdsOf p ⌝ }
 {
-    utils::holds::of_frame(p.x.held | p.y.held | p.z.held | p.phase.held)
+    utils::holds::of_frame(p.phase.held, p.x.held | p.y.held, p.z.held)
 }
 
 // The four whole parts in one number.

@@ -1,6 +1,6 @@
 -- A block in stages is the block frame by frame: at each frame, what a stage leaves is what the definition has from the state before that frame.
 use mathlib.Core.Path.{_≡_, refl, sym, ap, _∙_}
-use mathlib.Core.Bool.{_||_}
+use mathlib.Core.Bool.{false}
 use mathlib.Core.List.{List}
 use Prim.Native.Nat.{ℕ, zero, suc, _+_, _*_, _≤_, _<_}
 use native.Mathlib.Nat.{mul-le-mul-right}
@@ -146,7 +146,7 @@ module _ (bank : List ℤ) (high low : List Float) (size : ℕ) (parameters : En
         ∙ sym (count-frames (next bank begin) (λ f. framed bank f .holds) begin _ size (λ j h. rw (waveform-is j h, phase-is j h)))
 
     holds-few : AtMost (mostHolds * size) holds
-    holds-few = rw (g .parted .holds-are) (most-more (omega arith) (sum-most suc _ 1 (λ j. most-frame (partAt waveformTop (g .waveforms₀) j .held || partAt phaseTop (g .phases₀) j .held)) size 0))
+    holds-few = rw (g .parted .holds-are) (most-more (omega arith) (sum-most suc _ 1 (λ j. most-frame (partAt phaseTop (g .phases₀) j .held) (partAt waveformTop (g .waveforms₀) j .held) false) size 0))
 
     end-is : end ≡ at bank begin size .positions
     end-is = g .walked .end-is ∙ sym (positions-after bank begin size)

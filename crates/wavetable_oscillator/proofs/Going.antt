@@ -1,6 +1,6 @@
 -- The three loops that carry something go on: what they carry and the lists that they fill are those of one more frame.
 use mathlib.Core.Path.{_≡_, refl, ap, _∙_, subst}
-use mathlib.Core.Bool.{Bool, true, false, cond, _||_}
+use mathlib.Core.Bool.{Bool, true, false, _||_}
 use mathlib.Core.List.{List}
 use Prim.Native.Nat.{ℕ, suc, _+_, _≤_, _<_}
 use native.Mathlib.Numerals.{add-one}
@@ -10,9 +10,10 @@ use lib.Ieee.{Float, nan}
 use Rattle.words.specs.Binary32.{_⊗_}
 use Rattle.words.specs.Parts.{partOf}
 use Rattle.words.specs.declared.Part.{Part}
-use Rattle.utils.specs.Holds.{ofFrame, plus}
+use Rattle.utils.specs.Holds.{once, ofFrame, plus, AtMost}
 use Rattle.utils.specs.Frames.{stateAfter, sumOf}
 use Rattle.utils.specs.declared.holds.Holds.{Holds}
+use Rattle.utils.proofs.Sums.{most-none, most-frame, most-plus}
 use Rattle.utils.proofs.Frames.{after-more, count-none, count-more}
 use Rattle.oscillator.specs.Bank.{tableSizeF, phaseTop}
 use Rattle.oscillator.specs.Readings.{cutoffOf}
@@ -75,38 +76,36 @@ module _ (start : Positions) (phases₀ waveforms₀ cutoffs₀ amplitudes₀ : 
 
 -- ---- the parts
 
--- the number that counts a frame, as its holds
-counted : (n : ℕ) (b : Bool) → _≡_ {A = Holds} (record { held = n + cond b 1 0 }) (plus (record { held = n }) (ofFrame b))
-unfolding plus
-counted n true = refl
-counted n false = refl
+-- the three numbers that count frames, as their holds
+abbrev pub holdsBy : ℕ → ℕ → ℕ → Holds
+holdsBy held phases waveforms = record { held = held; phase = phases; «wave_position» = waveforms; level = 0; map = 0; bank = 0 }
 
-one-most : (b : Bool) → cond b 1 0 ≤ 1
-one-most true = omega arith
-one-most false = omega arith
+counted : (held phases waveforms : ℕ) (p w : Bool)
+    → holdsBy (held + once (p || w)) (phases + once p) (waveforms + once w) ≡ plus (holdsBy held phases waveforms) (ofFrame p w false)
+unfolding plus ofFrame
+counted held phases waveforms true w = refl
+counted held phases waveforms false true = refl
+counted held phases waveforms false false = refl
 
-pub count-most : (n : ℕ) (b : Bool) → n ≡ cond b 1 0 → n ≤ 1
-count-most n b e = rw e (one-most b)
-
-pub record Parting (phases₀ waveforms₀ : List Float) (keys₀ : List ℕ) (phases waveforms : List Float) (keys : List ℕ) (held i : ℕ) : Type 0 where
-  pub few : held ≤ i
-  pub holds-are : _≡_ {A = Holds} (record { held = held }) (sumOf suc (λ j. holdsOf (partAt waveformTop waveforms₀ j) (partAt phaseTop phases₀ j)) i 0)
+pub record Parting (phases₀ waveforms₀ : List Float) (keys₀ : List ℕ) (phases waveforms : List Float) (keys : List ℕ) (holds : Holds) (i : ℕ) : Type 0 where
+  pub few : AtMost i holds
+  pub holds-are : holds ≡ sumOf suc (λ j. holdsOf (partAt waveformTop waveforms₀ j) (partAt phaseTop phases₀ j)) i 0
   pub keys-are : Filling (λ j. keyOf (partAt waveformTop waveforms₀ j) (partAt phaseTop phases₀ j)) 0 keys₀ keys i
   pub phases-are : Filling (λ j. partAt phaseTop phases₀ j .fraction) nan phases₀ phases i
   pub waveforms-are : Filling (λ j. partAt waveformTop waveforms₀ j .fraction) nan waveforms₀ waveforms i
 
 module _ (phases₀ waveforms₀ : List Float) (keys₀ : List ℕ) where
-  pub part-begins : Parting phases₀ waveforms₀ keys₀ phases₀ waveforms₀ keys₀ 0 0
+  pub part-begins : Parting phases₀ waveforms₀ keys₀ phases₀ waveforms₀ keys₀ (holdsBy 0 0 0) 0
   part-begins =
       record {
-        few = omega arith;
+        few = most-none 0;
         holds-are = count-none _;
         keys-are = filling-none _ _ keys₀;
         phases-are = filling-none _ _ phases₀;
         waveforms-are = filling-none _ _ waveforms₀;
       }
 
-  module _ (phases waveforms : List Float) (keys : List ℕ) (held i : ℕ) where
+  module _ (phases waveforms : List Float) (keys : List ℕ) (held held-phases held-waveforms i : ℕ) where
     -- the parts of the frame that comes
     abbrev waveform : Part
     waveform = partAt waveformTop waveforms i
@@ -115,25 +114,26 @@ module _ (phases₀ waveforms₀ : List Float) (keys₀ : List ℕ) where
     phase = partAt phaseTop phases i
 
     pub part-goes-on : i < length phases₀ → i < length waveforms₀ → i < length keys₀
-        → Parting phases₀ waveforms₀ keys₀ phases waveforms keys held i
+        → Parting phases₀ waveforms₀ keys₀ phases waveforms keys (holdsBy held held-phases held-waveforms) i
         → Parting phases₀ waveforms₀ keys₀ (set phases i (phase .fraction)) (set waveforms i (waveform .fraction)) (set keys i (keyOf waveform phase))
-        (held + cond (waveform .held || phase .held) 1 0) (i + 1)
+        (holdsBy (held + once (phase .held || waveform .held)) (held-phases + once (phase .held)) (held-waveforms + once (waveform .held))) (i + 1)
     part-goes-on hp hw hk g =
         let p : phase ≡ partAt phaseTop phases₀ i = ap (partOf phaseTop) (filling-next _ _ phases₀ phases i (g .phases-are)) in
         let w : waveform ≡ partAt waveformTop waveforms₀ i = ap (partOf waveformTop) (filling-next _ _ waveforms₀ waveforms i (g .waveforms-are)) in
+        let c = counted held held-phases held-waveforms (phase .held) (waveform .held) in
         record {
-          few = omega (arith, g .few, one-most (waveform .held || phase .held));
-          holds-are = counted held (waveform .held || phase .held) ∙ count-more _ _ _ i (g .holds-are) (rw (w, p));
+          few = rw c (most-plus (g .few) (most-frame (phase .held) (waveform .held) false));
+          holds-are = c ∙ count-more _ _ _ i (g .holds-are) (rw (w, p));
           keys-are = filling-more _ _ keys₀ keys i _ hk (rw (w, p)) (g .keys-are);
           phases-are = filling-more _ _ phases₀ phases i _ hp (ap (λ (q : Part). q .fraction) p) (g .phases-are);
           waveforms-are = filling-more _ _ waveforms₀ waveforms i _ hw (ap (λ (q : Part). q .fraction) w) (g .waveforms-are);
         }
 
-    pub part-ends : (size : ℕ) → i ≡ size → Parting phases₀ waveforms₀ keys₀ phases waveforms keys held i
-        → PartedBy phases₀ waveforms₀ size (record { held = held }) phases waveforms keys
-    part-ends size e g =
-        let v = subst (Parting phases₀ waveforms₀ keys₀ phases waveforms keys held) e g in
-        record { holds-are = v .holds-are; keys-are = v .keys-are .filled; phases-are = v .phases-are .filled; waveforms-are = v .waveforms-are .filled }
+  pub part-ends : (phases waveforms : List Float) (keys : List ℕ) (holds : Holds) (i size : ℕ) → i ≡ size → Parting phases₀ waveforms₀ keys₀ phases waveforms keys holds i
+      → PartedBy phases₀ waveforms₀ size holds phases waveforms keys
+  part-ends phases waveforms keys holds i size e g =
+      let v = subst (Parting phases₀ waveforms₀ keys₀ phases waveforms keys holds) e g in
+      record { holds-are = v .holds-are; keys-are = v .keys-are .filled; phases-are = v .phases-are .filled; waveforms-are = v .waveforms-are .filled }
 
 -- ---- the filters
 pub record Filtering (cutoff reading : ℕ → Float) (start : Filters) (lps₀ lps : List Float) (f : Filters) (i : ℕ) : Type 0 where

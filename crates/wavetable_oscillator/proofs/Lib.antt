@@ -2,3 +2,4 @@
 mod Going
 mod Composed
 pub mod Bench
+pub mod BlockKinds

@@ -1,6 +1,6 @@
 -- Document 02, N1: "Instrument 3 is `WavetableOscillator`": `render` of `wavetable_oscillator.rs`, in its order.
 use Prim.Native.Nat.{ℕ, _+_, _*_}
-use mathlib.Core.Bool.{_||_}
+use mathlib.Core.Bool.{false}
 use mathlib.Core.List.{List}
 use lib.IntN.{ℤ, pos}
 use lib.ListN.{drop}
@@ -75,9 +75,9 @@ waveformPart s = partOf waveformTop (s .«waveform_modulation» .value)
 abbrev pub phasePart : Positions → Part
 phasePart s = partOf phaseTop (s .phase ⊗ tableSizeF)
 
--- "and a frame with any hold counts 1".
+-- "and a frame with any hold counts 1". "The plain oscillator's held waveform is a wave position."
 abbrev pub holdsOf : Part → Part → Holds
-holdsOf waveform phase = ofFrame (waveform .held || phase .held)
+holdsOf waveform phase = ofFrame (phase .held) (waveform .held) false
 
 -- A wave at a phase: `interpolate_wave(wavetable[wave], ..)`.
 unfoldable pub readWave : List ℤ → ℕ → Part → Float

@@ -1,10 +1,10 @@
 // What goes from frame to frame: the positions, the filters, and the words.
 ghost use mathlib.Core.Path.{_≡_};
 ghost use Prim.Native.Nat.{_+_, _*_, _≤_};
-ghost use mathlib.Core.Bool.{cond};
 ghost use lib.ListN.{length, getD};
 ghost use lib.Ieee.{nan, binary32, toBits};
 ghost use Rattle.words.specs.Binary32.{decimal};
+ghost use Rattle.utils.specs.Holds.{once};
 ghost use Rattle.utils.specs.Frames.{Filled};
 ghost use Rattle.utils.specs.Rendered.{mostFrames};
 ghost use Rattle.oscillator.specs.Bank.{bankLength, waveLength, phaseTop};
@@ -79,9 +79,10 @@ pub fn walk(
     s
 }
 
-// 1 for a frame with any hold.
+// 1 where something was held.
 fn count(held: bool) -> u32
-    ensures { λ r. ⌜ r ≡ cond held 1 0 ⌝ }
+    ensures { λ r. ⌜ r ≡ once held ⌝ }
+    ensures { λ r. ⌜ r ≤ 1 ⌝ }
 {
     if held { 1 } else { 0 }
 }
@@ -100,6 +101,8 @@ pub fn part_all(size: usize, phases: &mut [f32], waveforms: &mut [f32], keys: &m
     ensures { λ r. ⌜ PartedBy (now (phases .entry)) (now (waveforms .entry)) size r (now (phases .exit)) (now (waveforms .exit)) (now (keys .exit)) ⌝ }
 {
     let mut held = 0;
+    let mut held_phases = 0;
+    let mut held_waveforms = 0;
     let mut i = 0;
     while i < size {
         let w = words::held_part(waveforms[i], crate::WavetableOscillator::WAVEFORM_TOP);
@@ -107,11 +110,18 @@ pub fn part_all(size: usize, phases: &mut [f32], waveforms: &mut [f32], keys: &m
         keys[i] = key(w.whole, p.whole);
         waveforms[i] = w.fraction;
         phases[i] = p.fraction;
-        held += count(w.held | p.held);
+        held += count(p.held | w.held);
+        held_phases += count(p.held);
+        held_waveforms += count(w.held);
         i += 1;
     }
     Holds {
         held: held as usize,
+        phase: held_phases as usize,
+        wave_position: held_waveforms as usize,
+        level: 0,
+        map: 0,
+        bank: 0,
     }
 }
 

@@ -35,7 +35,7 @@ interpolate-wave-u8-requires-2 c κs = omega (arith, place-most _ _ _ _ (c .befo
 returns : tie.Need-returns
 unfolding terrainLookup ofBits decimal
 returns c =
-    let at-far = c .before .before in
+    let at-far = c .before in
     let at-near = at-far .before .before in
     let at-place = at-near .before in
     let at-second = at-place .before .before .before in

@@ -45,7 +45,7 @@ interpolate-integrated-wave-requires-2 c κs = omega (arith, place-most _ _ _ _ 
 returns : tie.Need-returns
 unfolding terrainLookupWt ofBits decimal
 returns c =
-    let at-far = c .before .before in
+    let at-far = c .before in
     let at-near = at-far .before .before in
     let at-place = at-near .before in
     let at-second = at-place .before .before .before in

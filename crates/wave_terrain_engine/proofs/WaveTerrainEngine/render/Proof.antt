@@ -38,6 +38,7 @@ render-frames-requires c κs =
       (
         (top, pre .1 .aux-long),
         record {
+          few-frames = few;
           run-room = omega (arith, few);
           run2-room = omega (arith, few);
           xs-room = omega (arith, few);

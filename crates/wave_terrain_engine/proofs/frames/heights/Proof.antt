@@ -1,34 +1,29 @@
 -- The loop over the heights of a layer, by the law of lent runs that a loop fills and the law of counts.
 use borrow.Author.Needs.{needs}
 use native.Mathlib.Omega.{arith}
-use Prim.Native.Nat.{suc, _-_, _/_, _≤_, zero-le}
-use mathlib.Core.Path.{_≡_, ap, _∙_}
+use Prim.Native.Nat.{_-_, _/_, _≤_, zero-le}
+use mathlib.Core.Path.{_≡_, ap}
 use lib.Ieee.{nan}
-use Rattle.utils.specs.Frames.{sumOf}
-use Rattle.utils.proofs.Sums.{most-more, most-plus}
 use Rattle.utils.proofs.Runs.{Filling, filling-none, filling-more}
-use Rattle.terrain.specs.declared.Reading.{Reading}
+use Rattle.terrain.specs.Tally.{tally}
+use Rattle.terrain.specs.declared.Height.{Height}
+use Rattle.terrain.proofs.Layers.{top-most}
 use Rattle.wave_terrain_engine.specs.Stages.{stageHeight}
-use Rattle.utils.proofs.Frames.{count-none, count-more}
-use Rattle.wave_terrain_engine.proofs.Counts.{stage-held}
-use Rattle.terrain.proofs.Layers.{top-most, reading-held}
+use Rattle.wave_terrain_engine.proofs.Counts.{heldBefore, tally-none, tally-more, tally-fits, tally-back}
 use Rattle.wave_terrain_engine.proofs.frames.heights.Statement.{statement}
 use Rattle.wave_terrain_engine.proofs.frames.heights.Tie as tie
 
 abbrev Inv-loop : tie.InvT-loop
-Inv-loop n up table bank map xs ys layers zs₀ holds₀ i₀ zs holds i =
+Inv-loop n up table bank map xs ys layers zs₀ held₀ i₀ zs held i =
     (i ≤ n)
-    × ((holds ≡ sumOf suc (λ j. stageHeight table bank map xs ys layers up j .holds) i 0)
+    × ((held ≡ tally (heldBefore table bank map xs ys layers up i))
     × Filling (λ j. stageHeight table bank map xs ys layers up j .value) nan zs₀ zs i)
 
 abbrev μ-loop : tie.MeasureT-loop
-μ-loop n up table bank map xs ys layers zs₀ holds₀ i₀ zs holds i = n - i
+μ-loop n up table bank map xs ys layers zs₀ held₀ i₀ zs held i = n - i
 
 loop-holds : tie.Need-loop-holds Inv-loop μ-loop
-loop-holds c = (zero-le, (c .none .ensures ∙ count-none _, filling-none _ _ _))
-
-none-requires : tie.Need-none-requires Inv-loop μ-loop
-none-requires c κs = search needs
+loop-holds c = (zero-le, (tally-none _ _ _ _ _ _ _, filling-none _ _ _))
 
 mul-layer : tie.Need-mul-layer Inv-loop μ-loop
 mul-layer c = search needs
@@ -54,14 +49,14 @@ shared-slice-read-terrain-2 c = search needs
 add-terrain : tie.Need-add-terrain Inv-loop μ-loop
 add-terrain c =
     let at-loop = c .before .before .before .before in
-    let entry = at-loop .before .before .before .before .before .before .before in
-    record { fits = omega (arith, entry .pre .1 .1 (at-loop .loop .i) (search needs), top-most (entry .args .map .now)) }
+    let entry = at-loop .before .before .before .before .before .before in
+    record { fits = omega (arith, entry .pre .1 .1 .1 (at-loop .loop .i) (search needs), top-most (entry .args .map .now)) }
 
 terrain-requires : tie.Need-terrain-requires Inv-loop μ-loop
 terrain-requires c κs =
     let at-loop = c .before .before .before .before in
-    let entry = at-loop .before .before .before .before .before .before .before in
-    (entry .pre .0, entry .pre .1 .1 (at-loop .loop .i) (search needs))
+    let entry = at-loop .before .before .before .before .before .before in
+    (entry .pre .0, entry .pre .1 .1 .1 (at-loop .loop .i) (search needs))
 
 mul-zs : tie.Need-mul-zs Inv-loop μ-loop
 mul-zs c = search needs
@@ -69,13 +64,12 @@ mul-zs c = search needs
 slice-write-zs : tie.Need-slice-write-zs Inv-loop μ-loop
 slice-write-zs c = search needs
 
-plus-requires : tie.Need-plus-requires Inv-loop μ-loop
-plus-requires c κs =
-    let at-loop = c .before .before .before .before .before in
-    let entry = at-loop .before .before .before .before .before .before .before in
-    let a = entry .args in
-    let few = stage-held (a .table .now) (a .bank .now) (a .map .now) (a .xs .now) (a .ys .now) (a .layers .now) (a .up) _ _ (at-loop .loop .inv .1 .0) in
-    most-more (omega (arith, at-loop .loop .inv .0)) (most-plus few (reading-held _ _ _ _ _ _ _ (c .terrain .ensures)))
+add-held : tie.Need-add-held Inv-loop μ-loop
+add-held c =
+    let at-loop = c .before .before .before .before .before .before in
+    let entry = at-loop .before .before .before .before .before .before in
+    let l = at-loop .loop in
+    record { fits = tally-fits _ _ _ _ _ _ _ _ _ _ (l .inv .1 .0) (ap (λ (r : Height). r .held) (c .before .terrain .ensures)) (omega (arith, entry .pre .1 .0)) }
 
 add-i : tie.Need-add-i Inv-loop μ-loop
 add-i c = search needs
@@ -89,23 +83,26 @@ loop-again c =
     let z = c .before .terrain .ensures in (
       search needs,
       (
-        c .plus .ensures ∙ count-more _ _ _ _ (inv .1 .0) (ap (λ (r : Reading). r .holds) z),
-        filling-more _ _ _ _ _ _ (search needs) (ap (λ (r : Reading). r .value) z) (inv .1 .1),
+        tally-more _ _ _ _ _ _ _ _ _ _ (inv .1 .0) (ap (λ (r : Height). r .held) z),
+        filling-more _ _ _ _ _ _ (search needs) (ap (λ (r : Height). r .value) z) (inv .1 .1),
       ),
     )
+
+holds-of-requires : tie.Need-holds-of-requires Inv-loop μ-loop
+holds-of-requires c κs = search needs
 
 same-length : tie.Need-same-length Inv-loop μ-loop
 same-length c = search needs
 
 returns : tie.Need-returns Inv-loop μ-loop
 returns c =
-    let at-loop = c .before in
-    let entry = at-loop .before .before .before .before .before .before .before in
+    let at-loop = c .before .before in
+    let entry = at-loop .before .before .before .before .before .before in
     let inv = at-loop .loop .inv in
     let a = entry .args in
     let e : at-loop .loop .i ≡ a .n = omega arith in
-    let few = stage-held (a .table .now) (a .bank .now) (a .map .now) (a .xs .now) (a .ys .now) (a .layers .now) (a .up) _ _ (inv .1 .0) in
-    (rw e at few, (rw e at (inv .1 .0), rw e at (inv .1 .1 .filled)))
+    let held = tally-back _ _ _ _ _ _ _ _ _ _ (entry .pre .1 .0) (rw e at (inv .1 .0)) (c .holds-of .ensures) in
+    (held .0, (held .1, rw e at (inv .1 .1 .filled)))
 
 pub heights-spec : {M : Type 1} → statement M
 heights-spec =
@@ -113,7 +110,6 @@ heights-spec =
     (tie.spec
     Inv-loop
     μ-loop
-    none-requires
     loop-holds
     mul-layer
     shared-slice-read-layer
@@ -126,9 +122,10 @@ heights-spec =
     terrain-requires
     mul-zs
     slice-write-zs
-    plus-requires
+    add-held
     add-i
     loop-less
     loop-again
+    holds-of-requires
     same-length
     returns)

@@ -32,8 +32,11 @@ heights-requires c κs =
     let shift = at-shift .shift in (
       entry .pre .0,
       (
-        omega (arith, room, shift .kept),
-        λ j l. layer-fits (entry .args .map .now) _ _ _ _ _ j (entry .pre .1 .0 .0) (shift .ensures .1 .1 .0) l (omega arith),
+        omega (arith, room),
+        (
+          omega (arith, room, shift .kept),
+          λ j l. layer-fits (entry .args .map .now) _ _ _ _ _ j (entry .pre .1 .0 .0) (shift .ensures .1 .1 .0) l (omega arith),
+        ),
       ),
     )
 
@@ -52,8 +55,11 @@ heights-requires-2 c κs =
     let shift = at-shift .shift in (
       entry .pre .0,
       (
-        omega (arith, room, shift .kept, at-heights .heights .kept),
-        λ j l. layer-fits (entry .args .map .now) _ _ _ _ _ j (entry .pre .1 .0 .0) (shift .ensures .1 .1 .0) l (omega arith),
+        omega (arith, room),
+        (
+          omega (arith, room, shift .kept, at-heights .heights .kept),
+          λ j l. layer-fits (entry .args .map .now) _ _ _ _ _ j (entry .pre .1 .0 .0) (shift .ensures .1 .1 .0) l (omega arith),
+        ),
       ),
     )
 
@@ -82,7 +88,10 @@ plus-requires c κs =
     most-more (omega (arith, entry .good)) (most-plus (at-heights .heights .ensures .0) (at-heights-2 .heights2 .ensures .0))
 
 same-length : tie.Need-same-length
-same-length c = search needs
+same-length c =
+    let at-sums = c .before .before .before .before .before .before .before .before .before .before in
+    let at-heights = at-sums .before .before .before .before .before .before .before .before .before .before .before .before .before .before in
+    omega (arith, at-heights .heights .kept)
 
 same-length-2 : tie.Need-same-length-2
 same-length-2 c =
