@@ -1,5 +1,6 @@
-// Calls the C functions by position, with arguments that tell them apart, and prints what they return, what they write to `first` and
-// `second`, and every lent word and byte. A contract speaks of a parameter by its name, C binds it by its place: two parameters that change places show here.
+// Calls the C functions by position, with arguments that tell them apart, and prints what they return, what they write to `first`, `second`
+// and `counts`, and every lent word and byte. A contract speaks of a parameter by its name, C binds it by its place: two parameters that change
+// places show here.
 ghost use mathlib.Core.Path.{_≡_};
 ghost use lib.ListN.{length};
 use trial::say;
@@ -9,6 +10,8 @@ use trial::say_number;
 const UNWRITTEN: u64 = 77;
 
 const FRAMES: u32 = 4;
+
+const KEPT: usize = 13;
 
 // Writes a space and a word in decimal.
 fn say_word(w: u32) {
@@ -38,11 +41,27 @@ fn fill_waves(bank: &mut [i16])
 }
 
 // What a call returned and wrote to its two results.
-fn print_values(call: &[u8], number: u32, first: u64, second: u64) {
+fn say_values(call: &[u8], number: u32, first: u64, second: u64) {
     say(call);
     say_number(number as u64);
     say_number(first);
     say_number(second);
+}
+
+// The same on a line.
+fn print_values(call: &[u8], number: u32, first: u64, second: u64) {
+    say_values(call, number, first, second);
+    say(b"\n");
+}
+
+// The same with the five counts that a call wrote.
+fn print_report(call: &[u8], number: u32, first: u64, second: u64, counts: [u64; 5]) {
+    say_values(call, number, first, second);
+    say_number(counts[0]);
+    say_number(counts[1]);
+    say_number(counts[2]);
+    say_number(counts[3]);
+    say_number(counts[4]);
     say(b"\n");
 }
 
@@ -84,6 +103,7 @@ fn render(
 ) {
     let mut first = UNWRITTEN;
     let mut second = UNWRITTEN;
+    let mut counts = [UNWRITTEN; 5];
     let number = retake_c::retake_render(
         instrument,
         rate,
@@ -97,8 +117,9 @@ fn render(
         kept,
         &mut first,
         &mut second,
+        &mut counts,
     );
-    print_values(b"render", number, first, second);
+    print_report(b"render", number, first, second, counts);
     print_take(out, aux, kept);
 }
 
@@ -117,6 +138,7 @@ fn edit(
 ) {
     let mut first = UNWRITTEN;
     let mut second = UNWRITTEN;
+    let mut counts = [UNWRITTEN; 5];
     let number = retake_c::retake_edit(
         instrument,
         rate,
@@ -136,8 +158,9 @@ fn edit(
         kept,
         &mut first,
         &mut second,
+        &mut counts,
     );
-    print_values(b"edit", number, first, second);
+    print_report(b"edit", number, first, second, counts);
     say_words(b"rows", rows);
     print_take(out, aux, kept);
 }
@@ -157,6 +180,7 @@ fn insert(
 ) {
     let mut first = UNWRITTEN;
     let mut second = UNWRITTEN;
+    let mut counts = [UNWRITTEN; 5];
     let number = retake_c::retake_insert(
         instrument,
         rate,
@@ -176,8 +200,9 @@ fn insert(
         kept,
         &mut first,
         &mut second,
+        &mut counts,
     );
-    print_values(b"insert", number, first, second);
+    print_report(b"insert", number, first, second, counts);
     say_words(b"rows", rows);
     print_take(out, aux, kept);
 }
@@ -196,6 +221,7 @@ fn remove(
 ) {
     let mut first = UNWRITTEN;
     let mut second = UNWRITTEN;
+    let mut counts = [UNWRITTEN; 5];
     let number = retake_c::retake_remove(
         instrument,
         rate,
@@ -210,8 +236,9 @@ fn remove(
         kept,
         &mut first,
         &mut second,
+        &mut counts,
     );
-    print_values(b"remove", number, first, second);
+    print_report(b"remove", number, first, second, counts);
     say_words(b"rows", rows);
     print_take(out, aux, kept);
 }
@@ -253,8 +280,33 @@ fn splices(
     remove(instrument, rate, bank, map, rows, 3, 3, out, aux, kept);
 }
 
+// An edit of row 1 after words in row 0's place that no rendering keeps: positions are held, of each kind another number.
+fn holds(
+    instrument: u32,
+    rate: u32,
+    bank: &[i16],
+    map: &[u8],
+    held: &[u32; KEPT],
+    rows: &mut [u32; 20],
+    out: &mut [u32; 16],
+    aux: &mut [u32; 16],
+    kept: &mut [u32; 52],
+) {
+    let row = [0x42480000, 0x3f000000, 0x3f400000, 0x3f800000, 0];
+    lists::copy_words(held, &mut kept[..KEPT]);
+    edit(instrument, rate, bank, map, rows, 3, 1, row, out, aux, kept);
+}
+
 // The score that was read, rendered and changed in words with room for a row more.
-fn play(instrument: u32, rate: u32, bank: &[i16], map: &[u8], read: [u32; 20], row: [u32; 5]) {
+fn play(
+    instrument: u32,
+    rate: u32,
+    bank: &[i16],
+    map: &[u8],
+    read: [u32; 20],
+    row: [u32; 5],
+    held: &[u32; KEPT],
+) {
     let mut rows = read;
     let mut out = [1; 16];
     let mut aux = [2; 16];
@@ -275,6 +327,17 @@ fn play(instrument: u32, rate: u32, bank: &[i16], map: &[u8], read: [u32; 20], r
         rate,
         bank,
         map,
+        &mut rows,
+        &mut out,
+        &mut aux,
+        &mut kept,
+    );
+    holds(
+        instrument,
+        rate,
+        bank,
+        map,
+        held,
         &mut rows,
         &mut out,
         &mut aux,
@@ -319,9 +382,54 @@ fn main() {
     fill_waves(&mut bank);
     let map = [90u8; 4096];
     let row = [0x42600000, 0x3f400000, 0x3e800000, 0x3f000000, 1];
-    play(0, 48000, &bank, &map[..0], rows, row);
+    let held = [
+        0x40600000,
+        0x40000000,
+        0x40400000,
+        0x3f800000,
+        0x41040000,
+        0x41080000,
+        0x40000000,
+        0x3f800000,
+        0x40000000,
+        0x43340000,
+        0x3c000000,
+        0x447a0000,
+        0x44fa0000,
+    ];
+    play(0, 48000, &bank, &map[..0], rows, row, &held);
     let row = [0x42500000, 0x3f100000, 0x3ec00000, 0x3f700000, 0];
-    play(2, 44100, &bank, &map, rows, row);
+    let held = [
+        0x3f800000,
+        0,
+        0x3d000000,
+        0x3f000000,
+        0x461c4000,
+        0x40c00000,
+        0,
+        0,
+        0,
+        0,
+        0,
+        0,
+        0,
+    ];
+    play(2, 44100, &bank, &map, rows, row, &held);
     let row = [0x42200000, 0x3e200000, 0x3f300000, 0x3ea00000, 0];
-    play(3, 96000, &bank, &map[..0], rows, row);
+    let held = [
+        0x40d00000,
+        0x3a800000,
+        0x3c000000,
+        0x43480000,
+        0x42c80000,
+        0x43480000,
+        0x43960000,
+        0,
+        0,
+        0,
+        0,
+        0,
+        0,
+    ];
+    play(3, 96000, &bank, &map[..0], rows, row, &held);
 }

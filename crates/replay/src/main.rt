@@ -14,6 +14,7 @@ use trial::say;
 use trial::say_number;
 use trial::say_two;
 use trial::sum_of_words;
+use utils::holds::Holds;
 
 const BANK: usize = 25344;
 
@@ -89,12 +90,22 @@ fn row_words(file: &[u8], at: usize, n: usize) -> [u32; MOST_ROWS * 5]
     words
 }
 
-// The two numbers of a call's success, or of its refusal.
+// What was held, and of which kinds.
+fn print_holds(holds: Holds) {
+    say_number(holds.held as u64);
+    say_number(holds.phase as u64);
+    say_number(holds.wave_position as u64);
+    say_number(holds.level as u64);
+    say_number(holds.map as u64);
+    say_number(holds.bank as u64);
+}
+
+// The numbers of a call's success, or the two of its refusal.
 fn print_answer(answer: Answer) {
     match answer {
         Answer::Done(report) => {
             say_number(report.rows as u64);
-            say_number(report.holds.held as u64);
+            print_holds(report.holds);
         }
         Answer::Refused(refusal) => {
             say_two(b" refused", refusal.number as u64, refusal.place as u64);

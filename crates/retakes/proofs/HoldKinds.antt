@@ -1,6 +1,6 @@
 -- What any call reports has the kinds of its voice: each row's holds have them, and sums do.
 use Prim.Native.Nat.{ℕ, zero, suc, _+_}
-use mathlib.Core.Path.{_≡_, refl, sym, ap, _∙_, subst}
+use mathlib.Core.Path.{_≡_, subst}
 use mathlib.Core.Bool.{Bool, true, false, cond}
 use mathlib.Core.List.{List}
 use lib.Dec.{eqb}
@@ -14,13 +14,12 @@ use Rattle.voice.specs.Voice.{voiceOf}
 use Rattle.voice.specs.HoldKinds.{KindsOn}
 use Rattle.voice.proofs.RowKinds.{row-kinds}
 use Rattle.score.specs.Rows.{rowAt, restarts}
-use Rattle.rows.specs.declared.Report.{Report}
-use Rattle.rows.specs.Rows.{Setup, Take, startOf, parametersOf, rowFrom, rowBy, rowIn, wordsBefore, keptAt, putWords, both, Run, idle, stopsOf, runOf}
-use Rattle.refusals.specs.Calls.{Call, position, countAfter, rowsAfter}
+use Rattle.rows.specs.Rows.{Setup, Take, startOf, parametersOf, rowFrom, rowBy, rowIn, wordsBefore, keptAt, putWords, both, Run, stopsOf, runOf}
+use Rattle.refusals.specs.Calls.{Call}
 use Rattle.refusals.specs.Refusals.{refusalOf}
 use Rattle.take.specs.declared.Answer.{Answer}
 use Rattle.take.specs.declared.Answer.the-variants.{Done, Refused}
-use Rattle.take.specs.Take.{Outcome, movedBy, stretchEnd, rendersNothing, doneOf, callOf}
+use Rattle.take.specs.Take.{refusedBy, rendersNothing, doneOf, callOf}
 use Rattle.retakes.specs.Retakes.{HoldKinds}
 
 kinds-summed : (v : Voice) → Summed (KindsOn v)
@@ -63,7 +62,7 @@ call-on : (s : Setup) (n : ℕ) (rows : List ℕ) (t : Take) (c : Call) → Repo
 unfolding callOf doneOf Reported
 call-on s n rows t c = go (eqb (refusalOf s n rows t c .number) 0)
   where
-    go : (b : Bool) → Reported s (cond b (doneOf s n rows t c) _ .answer)
+    go : (b : Bool) → Reported s (cond b (doneOf s n rows t c) (refusedBy (refusalOf s n rows t c) rows t) .answer)
     go true = either s (rendersNothing s n rows t c) _ _ (kinds-summed (voiceOf (s .instrument)) .of-none) (run-on s _ _ _ _ _ _)
     go false = tt
 

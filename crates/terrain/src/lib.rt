@@ -166,11 +166,7 @@ fn terrain_lookup(map: &[u8], x: f32, y: f32) -> Height
 {
     let cx = coordinate_at((x + 1.0) * COORD_SCALE);
     let cy = coordinate_at((y + 1.0) * COORD_SCALE);
-    let place = held_place(
-        MAP_HELD,
-        MAP_EDGE,
-        TERRAIN_SIZE * cy.whole + cx.whole,
-    );
+    let place = held_place(MAP_HELD, MAP_EDGE, TERRAIN_SIZE * cy.whole + cx.whole);
     let near = interpolate_wave_u8(map, place.flat, cx.fraction);
     let far = interpolate_wave_u8(map, place.flat + TERRAIN_SIZE, cx.fraction);
     Height {

@@ -19,7 +19,7 @@ returns : tie.Need-returns
 returns c =
     let equal = c .before in
     let entry = equal .before .before .before .before .before .before .before .before in
-    edit-idles _ _ _ _ _ (entry .args .row) (search needs) _ (sym (equal .before .same-row .ensures) ∙ equal .if1 .taken) (c .nothing .ensures)
+    edit-idles _ _ _ _ _ (entry .args .row) (omega (arith, entry .good .1 .1 .1 .1 .1 .1 .0)) _ (sym (equal .before .same-row .ensures) ∙ equal .if1 .taken) (c .nothing .ensures)
 
 put-row-requires : tie.Need-put-row-requires
 put-row-requires c κs = search needs
