@@ -1,16 +1,16 @@
 -- The walk goes on: the positions, what the frames held and the five lists are those of one more frame. And the parts of positions keep within their tops.
-use mathlib.Core.Path.{_≡_, refl, ap, _∙_, subst}
-use mathlib.Core.Bool.{_||_}
+use mathlib.Core.Path.{_≡_, refl, sym, ap, _∙_, subst}
+use mathlib.Core.Bool.{Bool, true, false, _||_, false≢true}
 use mathlib.Core.List.{List}
 use Prim.Native.Nat.{ℕ, _+_, _≤_, _<_}
 use native.Mathlib.Omega.{arith}
 use lib.ListN.{length, set, length-set}
 use lib.Ieee.{Float, nan}
 use Rattle.words.proofs.Parts.{part-most}
-use Rattle.utils.specs.Holds.{none, plus, total, AtMost}
+use Rattle.utils.specs.Holds.{none, ofFrame, plus, total, AtMost}
 use Rattle.utils.specs.Frames.{stateAfter, eachOf, sumOf, Filled}
 use Rattle.utils.specs.declared.holds.Holds.{Holds}
-use Rattle.utils.proofs.Sums.{most-none, most-frame, most-plus}
+use Rattle.utils.proofs.Sums.{plus-none, most-none, most-frame, most-plus}
 use Rattle.utils.proofs.Frames.{filled-none, filled-more, after-more, sum-more}
 use Rattle.oscillator.specs.Bank.{phaseTop}
 use Rattle.wavetable_engine.specs.declared.frames.Positions.{Positions}
@@ -31,6 +31,19 @@ parts-fit p s e =
 pub frame-most : (p : Parts) → AtMost 1 (holdsOf p)
 unfolding holdsOf
 frame-most p = most-frame (p .phase .held) (p .x .held || p .y .held) (p .z .held)
+
+-- a frame that holds nothing
+no-frame : (phase x y z : Bool) → phase || (x || (y || z)) ≡ false → ofFrame phase (x || y) z ≡ none
+unfolding ofFrame
+no-frame false false false false e = refl
+no-frame false false false true e = absurd (false≢true (sym e))
+no-frame false false true z e = absurd (false≢true (sym e))
+no-frame false true y z e = absurd (false≢true (sym e))
+no-frame true x y z e = absurd (false≢true (sym e))
+
+pub adds-nothing : (holds : Holds) (p : Parts) → p .phase .held || (p .x .held || (p .y .held || p .z .held)) ≡ false → holds ≡ plus holds (holdsOf p)
+unfolding holdsOf
+adds-nothing holds p e = sym (ap (plus holds) (no-frame (p .phase .held) (p .x .held) (p .y .held) (p .z .held) e) ∙ plus-none holds)
 
 -- what the frame that begins with s holds
 abbrev pub holdsAt : Float → Positions → Holds

@@ -1,8 +1,10 @@
 // What goes from frame to frame: the positions, the differentiator, and the words.
 ghost use mathlib.Core.Path.{_≡_};
+ghost use mathlib.Core.Bool.{_||_};
 ghost use Prim.Native.Nat.{_≤_};
 ghost use lib.ListN.{length, getD};
 ghost use lib.Ieee.{nan, binary32, toBits};
+ghost use Rattle.utils.specs.Holds.{plus, AtMost, mostCount};
 ghost use Rattle.utils.specs.Frames.{Filled};
 ghost use Rattle.utils.specs.Rendered.{mostFrames};
 ghost use Rattle.wavetable_engine.specs.Wavetable.{moved, partsOf, holdsOf, gainOf, lofi};
@@ -81,6 +83,33 @@ fn held(p: Parts) -> Holds
     utils::holds::of_frame(p.phase.held, p.x.held | p.y.held, p.z.held)
 }
 
+// Whether a frame holds anything.
+fn any_held(p: Parts) -> bool
+    ensures { λ r. ⌜ r ≡ (p .phase .held || (p .x .held || (p .y .held || p .z .held))) ⌝ }
+{
+    if p.phase.held {
+        return true;
+    }
+    if p.x.held {
+        return true;
+    }
+    if p.y.held {
+        return true;
+    }
+    p.z.held
+}
+
+// The holds of the frames before, and those of a frame. Nearly every frame holds nothing; then nothing is added, for speed.
+fn with_held(holds: Holds, p: Parts) -> Holds
+    requires { ⌜ AtMost mostCount (plus holds (holdsOf p)) ⌝ }
+    ensures { λ r. ⌜ r ≡ plus holds (holdsOf p) ⌝ }
+{
+    if any_held(p) {
+        return utils::holds::plus(holds, held(p));
+    }
+    holds
+}
+
 // The four whole parts in one number.
 fn key(p: Parts) -> u32
     requires { ⌜ PartsFit p ⌝ }
@@ -115,7 +144,7 @@ pub fn walk(
         ys[i] = p.y.fraction;
         zs[i] = p.z.fraction;
         phases[i] = p.phase.fraction;
-        holds = utils::holds::plus(holds, held(p));
+        holds = with_held(holds, p);
         i += 1;
     }
     Walked { end: s, holds }

@@ -74,13 +74,10 @@ mul-phases c = search needs
 slice-write-phases : tie.Need-slice-write-phases Inv-loop μ-loop
 slice-write-phases c = search needs
 
-held-requires : tie.Need-held-requires Inv-loop μ-loop
-held-requires c κs = search needs
-
-plus-requires : tie.Need-plus-requires Inv-loop μ-loop
-plus-requires c κs =
-    let inv = c .before .before .before .before .before .loop .inv in
-    rw (c .held .ensures) (most-more (omega (arith, inv .0, inv .1 .0)) (most-plus (inv .1 .1 .few) (frame-most (c .before .before .parts-of .result))))
+with-held-requires : tie.Need-with-held-requires Inv-loop μ-loop
+with-held-requires c κs =
+    let inv = c .before .before .before .before .loop .inv in
+    most-more (omega (arith, inv .0, inv .1 .0)) (most-plus (inv .1 .1 .few) (frame-most (c .before .parts-of .result)))
 
 add-i : tie.Need-add-i Inv-loop μ-loop
 add-i c = search needs
@@ -90,9 +87,9 @@ loop-less c = search needs
 
 loop-again : tie.Need-loop-again Inv-loop μ-loop
 loop-again c =
-    let l = c .before .before .before .before .before .before .loop in
-    let taken = c .before .before .before .before .before .loop-test .taken in
-    rw (c .plus .ensures, c .before .held .ensures, c .before .before .key .ensures, c .before .before .before .parts-of .ensures, c .before .before .before .before .next .ensures)
+    let l = c .before .before .before .before .before .loop in
+    let taken = c .before .before .before .before .loop-test .taken in
+    rw (c .with-held .ensures, c .before .key .ensures, c .before .before .parts-of .ensures, c .before .before .before .next .ensures)
     (l .inv .0, (omega arith, goes-on _ _ _ _ (lists (l .keys) (l .xs) (l .ys) (l .zs) (l .phases)) (l .s) (l .holds) (l .i) taken (l .inv .1 .1)))
 
 same-length : tie.Need-same-length Inv-loop μ-loop
@@ -136,8 +133,7 @@ walk-spec =
     slice-write-zs
     mul-phases
     slice-write-phases
-    held-requires
-    plus-requires
+    with-held-requires
     add-i
     loop-less
     loop-again
