@@ -280,7 +280,16 @@ fn splices(
     remove(instrument, rate, bank, map, rows, 3, 3, out, aux, kept);
 }
 
-// An edit of row 1 after words in row 0's place that no rendering keeps: positions are held, of each kind another number.
+// Words in the place of those kept after row 0.
+fn keep(held: &[u32; KEPT], kept: &mut [u32; 52]) {
+    let mut i = 0;
+    while i < KEPT {
+        kept[i] = held[i];
+        i += 1;
+    }
+}
+
+// An edit of row 1 after words that no rendering keeps: positions are held, of each kind another number.
 fn holds(
     instrument: u32,
     rate: u32,
@@ -293,7 +302,7 @@ fn holds(
     kept: &mut [u32; 52],
 ) {
     let row = [0x42480000, 0x3f000000, 0x3f400000, 0x3f800000, 0];
-    lists::copy_words(held, &mut kept[..KEPT]);
+    keep(held, kept);
     edit(instrument, rate, bank, map, rows, 3, 1, row, out, aux, kept);
 }
 

@@ -11,7 +11,7 @@ use lib.Ieee.{ofBits, toBits, lt, le, add, sub, mul, div, neg, ofInt, toUnsigned
 use Rattle.words.specs.Binary32.{decimal}
 use Rattle.lists.specs.Lists.{same}
 use Rattle.words.specs.Parts.{partOf}
-use Rattle.utils.specs.Holds.{plus, total}
+use Rattle.utils.specs.Holds.{ofFrame, plus, total}
 use Rattle.utils.specs.Frames.{stateAfter, eachOf}
 use Rattle.utils.specs.Units.{noteToFrequency, semitonesToRatio, lutPitchRatioHigh, lutPitchRatioLow}
 use Rattle.oscillator.specs.Bank.{bankLength}
@@ -125,7 +125,7 @@ module _ (bank : List ℤ) (full-bank : length bank ≡ bankLength) where
   unfolding lengthsNumber runOf rowFrom rowBy beforeRow both plus total startOf parametersOf stopsOf same stateOf freshState voiceOf rendered keptWords wavetableOf
       wavetable.rendered setUp framed quantised
       noteToFrequency semitonesToRatio lutPitchRatioHigh lutPitchRatioLow moved partsOf holdsOf eachOf stateAfter partOf decimal ofBits toBits add sub mul div lt le neg toUnsigned ofInt isNan
-      zeros editLine countsLine digits
+      zeros editLine countsLine digits ofFrame
   known = record { long₀ = refl; long₁ = refl; long₂ = refl; line₁ = refl; line₂ = refl }
 
   render₀ : callOf s 3 rows₀ (blank 3) render ≡ ran rows₀ run₀

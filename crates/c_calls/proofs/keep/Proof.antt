@@ -1,0 +1,54 @@
+-- `keep` ends and stays within both arrays.
+use Prim.Native.Nat.{_-_, _≤_}
+use borrow.Author.Needs.{needs}
+use Rattle.c_calls.proofs.keep.Statement.{statement}
+use Rattle.c_calls.proofs.keep.Tie as tie
+
+abbrev Inv-loop : tie.InvT-loop
+Inv-loop held kept₀ i₀ kept i = i ≤ 13
+
+abbrev μ-loop : tie.MeasureT-loop
+μ-loop held kept₀ i₀ kept i = 13 - i
+
+loop-holds : tie.Need-loop-holds Inv-loop μ-loop
+loop-holds c = search needs
+
+mul-kept : tie.Need-mul-kept Inv-loop μ-loop
+mul-kept c = search needs
+
+element-copy-out-kept : tie.Need-element-copy-out-kept Inv-loop μ-loop
+element-copy-out-kept c = search needs
+
+mul-kept-2 : tie.Need-mul-kept-2 Inv-loop μ-loop
+mul-kept-2 c = search needs
+
+element-write-kept : tie.Need-element-write-kept Inv-loop μ-loop
+element-write-kept c = search needs
+
+add-i : tie.Need-add-i Inv-loop μ-loop
+add-i c = search needs
+
+loop-less : tie.Need-loop-less Inv-loop μ-loop
+loop-less c = search needs
+
+loop-again : tie.Need-loop-again Inv-loop μ-loop
+loop-again c = search needs
+
+returns : tie.Need-returns Inv-loop μ-loop
+returns c = search needs
+
+pub keep-spec : {M : Type 1} → statement M
+keep-spec =
+    tie.close
+    (tie.spec
+    Inv-loop
+    μ-loop
+    loop-holds
+    mul-kept
+    element-copy-out-kept
+    mul-kept-2
+    element-write-kept
+    add-i
+    loop-less
+    loop-again
+    returns)
