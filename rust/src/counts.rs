@@ -29,16 +29,17 @@ use std::ops::AddAssign;
 #[derive(Debug, Clone, Copy, Default, PartialEq, Eq)]
 #[non_exhaustive]
 pub struct Counts {
-    /// Frames that held the phase. Only a take that is no rendering's leads there.
+    /// Frames that held the phase. No rendering that was tried holds it: it comes from kept words that no
+    /// rendering left.
     pub phase: u64,
-    /// Frames of the wavetable voice that held x, y or both, as rarely as the phase; frames of the plain
+    /// Frames of the wavetable voice that held x, y or both, of which the same is true; frames of the plain
     /// oscillator that held its waveform.
     pub wave_position: u64,
     /// Frames of the wavetable voice that held z.
     pub level: u64,
-    /// Readings of the map.
+    /// Readings of the map that were held.
     pub map: u64,
-    /// Readings of the bank by the terrain voice.
+    /// Readings of the bank by the terrain voice that were held.
     pub bank: u64,
 }
 

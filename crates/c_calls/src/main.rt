@@ -13,6 +13,58 @@ const FRAMES: u32 = 4;
 
 const KEPT: usize = 13;
 
+// States that no rendering leaves. From the first, with the row of `holds` and the one behind it, the phase is held in 2 frames, x in 1, y in 3,
+// z in 6, any of them in 7.
+const WAVETABLE: [u32; KEPT] = [
+    0x40600000,
+    0x40000000,
+    0x40400000,
+    0x3f800000,
+    0x41040000,
+    0x41080000,
+    0x40000000,
+    0x3f800000,
+    0x40000000,
+    0x43340000,
+    0x3c000000,
+    0x447a0000,
+    0x44fa0000,
+];
+
+// The map in 2 readings, the bank in 10.
+const TERRAIN: [u32; KEPT] = [
+    0x3f800000,
+    0,
+    0x3d000000,
+    0x3f000000,
+    0x461c4000,
+    0x40c00000,
+    0,
+    0,
+    0,
+    0,
+    0,
+    0,
+    0,
+];
+
+// The phase in 5 frames, the waveform in 3 of these.
+const OSCILLATOR: [u32; KEPT] = [
+    0x40d00000,
+    0x3a800000,
+    0x3c000000,
+    0x43480000,
+    0x42c80000,
+    0x43480000,
+    0x43960000,
+    0,
+    0,
+    0,
+    0,
+    0,
+    0,
+];
+
 // Writes a space and a word in decimal.
 fn say_word(w: u32) {
     say_number(w as u64);
@@ -280,33 +332,33 @@ fn splices(
     remove(instrument, rate, bank, map, rows, 3, 3, out, aux, kept);
 }
 
-// Words in the place of those kept after row 0.
-fn keep(held: &[u32; KEPT], kept: &mut [u32; 52]) {
+// A state's words in the place of those kept after row 0.
+fn keep(state: [u32; KEPT], kept: &mut [u32; 52]) {
     let mut i = 0;
     while i < KEPT {
-        kept[i] = held[i];
+        kept[i] = state[i];
         i += 1;
     }
 }
 
-// An edit of row 1 after words that no rendering keeps: positions are held, of each kind another number.
+// An edit of row 1 from such a state: positions are held, of each kind another number.
 fn holds(
     instrument: u32,
     rate: u32,
     bank: &[i16],
     map: &[u8],
-    held: &[u32; KEPT],
+    state: [u32; KEPT],
     rows: &mut [u32; 20],
     out: &mut [u32; 16],
     aux: &mut [u32; 16],
     kept: &mut [u32; 52],
 ) {
     let row = [0x42480000, 0x3f000000, 0x3f400000, 0x3f800000, 0];
-    keep(held, kept);
+    keep(state, kept);
     edit(instrument, rate, bank, map, rows, 3, 1, row, out, aux, kept);
 }
 
-// The score that was read, rendered and changed in words with room for a row more.
+// The score that was read, rendered and changed in words with room for a row more; last the edit that holds.
 fn play(
     instrument: u32,
     rate: u32,
@@ -314,7 +366,7 @@ fn play(
     map: &[u8],
     read: [u32; 20],
     row: [u32; 5],
-    held: &[u32; KEPT],
+    state: [u32; KEPT],
 ) {
     let mut rows = read;
     let mut out = [1; 16];
@@ -346,7 +398,7 @@ fn play(
         rate,
         bank,
         map,
-        held,
+        state,
         &mut rows,
         &mut out,
         &mut aux,
@@ -391,54 +443,9 @@ fn main() {
     fill_waves(&mut bank);
     let map = [90u8; 4096];
     let row = [0x42600000, 0x3f400000, 0x3e800000, 0x3f000000, 1];
-    let held = [
-        0x40600000,
-        0x40000000,
-        0x40400000,
-        0x3f800000,
-        0x41040000,
-        0x41080000,
-        0x40000000,
-        0x3f800000,
-        0x40000000,
-        0x43340000,
-        0x3c000000,
-        0x447a0000,
-        0x44fa0000,
-    ];
-    play(0, 48000, &bank, &map[..0], rows, row, &held);
+    play(0, 48000, &bank, &map[..0], rows, row, WAVETABLE);
     let row = [0x42500000, 0x3f100000, 0x3ec00000, 0x3f700000, 0];
-    let held = [
-        0x3f800000,
-        0,
-        0x3d000000,
-        0x3f000000,
-        0x461c4000,
-        0x40c00000,
-        0,
-        0,
-        0,
-        0,
-        0,
-        0,
-        0,
-    ];
-    play(2, 44100, &bank, &map, rows, row, &held);
+    play(2, 44100, &bank, &map, rows, row, TERRAIN);
     let row = [0x42200000, 0x3e200000, 0x3f300000, 0x3ea00000, 0];
-    let held = [
-        0x40d00000,
-        0x3a800000,
-        0x3c000000,
-        0x43480000,
-        0x42c80000,
-        0x43480000,
-        0x43960000,
-        0,
-        0,
-        0,
-        0,
-        0,
-        0,
-    ];
-    play(3, 96000, &bank, &map[..0], rows, row, &held);
+    play(3, 96000, &bank, &map[..0], rows, row, OSCILLATOR);
 }

@@ -19,7 +19,7 @@ use score::refusal::Refusal;
 use take::Answer;
 use writer::WriteAnswer;
 
-// The number and the two values of an answer.
+// The number of an answer, and its first two values.
 struct Values {
     number: u32,
     first: u64,

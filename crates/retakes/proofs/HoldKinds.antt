@@ -1,13 +1,13 @@
 -- What any call reports has the kinds of its voice: each row's holds have them, and sums do.
 use Prim.Native.Nat.{ℕ, zero, suc, _+_}
-use mathlib.Core.Path.{_≡_, subst}
+use mathlib.Core.Path.{subst}
 use mathlib.Core.Bool.{Bool, true, false, cond}
 use mathlib.Core.List.{List}
 use lib.Dec.{eqb}
 use Rattle.lists.specs.Lists.{same}
 use Rattle.utils.specs.Units.{a0Of}
 use Rattle.utils.specs.declared.holds.Holds.{Holds}
-use Rattle.utils.proofs.Summing.{Summed, frames-summed, readings-summed}
+use Rattle.utils.proofs.Summing.{either, Summed, frames-summed, readings-summed}
 use Rattle.voice.specs.declared.Voice.{Voice}
 use Rattle.voice.specs.declared.Voice.the-variants as voice
 use Rattle.voice.specs.Voice.{voiceOf}
@@ -36,11 +36,10 @@ module _ (s : Setup) where
   unfolding rowBy rowFrom startOf
   row-on row before = row-kinds (s .bank) (s .map) (s .frames) (parametersOf (s .rate) row) (voiceOf (s .instrument)) (a0Of (s .rate)) before (restarts row)
 
-  -- a row, and then what comes after it
-  either : (b : Bool) (r q : Run) → On (r .report .holds) → On (q .report .holds) → On (cond b r q .report .holds)
-  either true r q h l = h
-  either false r q h l = l
+  one-run : (b : Bool) (r q : Run) → On (r .report .holds) → On (q .report .holds) → On (cond b r q .report .holds)
+  one-run = either (λ (r : Run). On (r .report .holds))
 
+  -- a row, and then what comes after it
   run-on : (rows : List ℕ) (n l a e : ℕ) (t : Take) → On (runOf s rows n l a e t .report .holds)
   unfolding runOf both
   run-on rows n zero a e t = kinds-summed (voiceOf (s .instrument)) .of-none
@@ -49,8 +48,8 @@ module _ (s : Setup) where
       let m = rowIn s rows (t .kept) a in
       let t' = putWords (s .frames) t a (m .words) in
       kinds-summed (voiceOf (s .instrument)) .of-plus _ _ (row-on (rowAt rows a) (wordsBefore s (t .kept) a))
-      (either (eqb (a + 1) e) _ _
-      (either (stopsOf n rows (a + 1) (same (keptAt (t .kept) a) (m .words .kept))) _ _ none (run-on rows n l (a + 1) (a + 2) t'))
+      (one-run (eqb (a + 1) e) _ _
+      (one-run (stopsOf n rows (a + 1) (same (keptAt (t .kept) a) (m .words .kept))) _ _ none (run-on rows n l (a + 1) (a + 2) t'))
       (run-on rows n l (a + 1) e t'))
 
 -- What an answer reports, if it reports anything.
@@ -63,7 +62,7 @@ unfolding callOf doneOf Reported
 call-on s n rows t c = go (eqb (refusalOf s n rows t c .number) 0)
   where
     go : (b : Bool) → Reported s (cond b (doneOf s n rows t c) (refusedBy (refusalOf s n rows t c) rows t) .answer)
-    go true = either s (rendersNothing s n rows t c) _ _ (kinds-summed (voiceOf (s .instrument)) .of-none) (run-on s _ _ _ _ _ _)
+    go true = one-run s (rendersNothing s n rows t c) _ _ (kinds-summed (voiceOf (s .instrument)) .of-none) (run-on s _ _ _ _ _ _)
     go false = tt
 
 pub hold-kinds : HoldKinds

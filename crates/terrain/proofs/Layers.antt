@@ -15,7 +15,7 @@ use Rattle.words.specs.Parts.{wholePart}
 use Rattle.utils.specs.Holds.{none, ofMap, ofBank, AtMost, OfReadings}
 use Rattle.utils.specs.declared.holds.Holds.{Holds}
 use Rattle.utils.proofs.Sums.{most-none, most-map, most-bank}
-use Rattle.utils.proofs.Summing.{readings-summed, map-kinds, bank-kinds}
+use Rattle.utils.proofs.Summing.{either, readings-summed, map-kinds, bank-kinds}
 use Rattle.oscillator.specs.Bank.{waveLength, tableSizeF}
 use Rattle.terrain.specs.Layers.{Lent, top, topWithMap, layerTop}
 use Rattle.terrain.specs.Heights.{
@@ -61,37 +61,32 @@ none-of-four k i h a b c d = omega arith
 
 -- something that each of the three has
 module _ (P : Holds → Type 0) (of-none : P none) (of-map : P ofMap) (of-bank : P ofBank) where
-  either-held : (b : Bool) (hold : Holds) → P hold → P (cond b hold none)
-  either-held true hold p = p
-  either-held false hold p = of-none
-
-  either-layer : (b : Bool) (r q : Reading) → P (r .holds) → P (q .holds) → P (cond b r q .holds)
-  either-layer true r q h l = h
-  either-layer false r q h l = l
+  layer : (b : Bool) (r q : Reading) → P (r .holds) → P (q .holds) → P (cond b r q .holds)
+  layer = either (λ (r : Reading). P (r .holds))
 
   map-held : (map : List ℕ) (x y : Float) → P (terrainLookup map x y .holds)
   unfolding terrainLookup
   map-held map x y =
       let coordScale = ofCount (terrainSize - 2) ⊗ decimal 5 1 in
-      either-held (ltb mapEdge (terrainSize * wholePart ((y ⊕ decimal 1 0) ⊗ coordScale) + wholePart ((x ⊕ decimal 1 0) ⊗ coordScale))) ofMap of-map
+      either P (ltb mapEdge (terrainSize * wholePart ((y ⊕ decimal 1 0) ⊗ coordScale) + wholePart ((x ⊕ decimal 1 0) ⊗ coordScale))) ofMap none of-map of-none
 
   bank-held : (bank : List ℤ) (x y : Float) (number : ℕ) → P (terrainLookupWt bank x y number .holds)
   unfolding terrainLookupWt
   bank-held bank x y number =
       let sample = wholePart ((y ⊕ decimal 1 0) ⊗ decimal 5 1 ⊗ tableSizeF) in
       let wt = wholePart ((x ⊕ decimal 1 0) ⊗ decimal 5 1 ⊗ ofCount (numWaves - 1)) in
-      either-held (ltb bankEdge (numWaves * waveLength * number + waveLength * wt + sample)) ofBank of-bank
+      either P (ltb bankEdge (numWaves * waveLength * number + waveLength * wt + sample)) ofBank none of-bank of-none
 
-  pub terrain-has : (sine : List Float) (bank : List ℤ) (map : List ℕ) (x y : Float) (i : ℕ) → P (terrainOf sine bank map x y i .holds)
+  terrain-has : (sine : List Float) (bank : List ℤ) (map : List ℕ) (x y : Float) (i : ℕ) → P (terrainOf sine bank map x y i .holds)
   unfolding terrainOf
   terrain-has sine bank map x y i =
-      either-layer (eqb i 0) _ _ of-none
-      (either-layer (eqb i 1) _ _ of-none
-      (either-layer (eqb i 2) _ _ of-none
-      (either-layer (eqb i 3) _ _ of-none
-      (either-layer (eqb i 4) _ _ of-none
-      (either-layer (leb i lastBankLayer) _ _ (bank-held bank x y (lastBankLayer - i))
-      (either-layer (eqb i mapLayer) _ _ (map-held map x y) of-none))))))
+      layer (eqb i 0) _ _ of-none
+      (layer (eqb i 1) _ _ of-none
+      (layer (eqb i 2) _ _ of-none
+      (layer (eqb i 3) _ _ of-none
+      (layer (eqb i 4) _ _ of-none
+      (layer (leb i lastBankLayer) _ _ (bank-held bank x y (lastBankLayer - i))
+      (layer (eqb i mapLayer) _ _ (map-held map x y) of-none))))))
 
 pub terrain-held : (sine : List Float) (bank : List ℤ) (map : List ℕ) (x y : Float) (i : ℕ) → AtMost 1 (terrainOf sine bank map x y i .holds)
 terrain-held = terrain-has (AtMost 1) (most-none 1) most-map most-bank

@@ -17,12 +17,8 @@ use Rattle.utils.specs.declared.holds.Holds.{Holds}
 use Rattle.oscillator.specs.Bank.{waveLength}
 use Rattle.terrain.specs.Heights.{Start, heldPlace, terrainSize, mapEdge, mapPlace, numWaves, bankEdge, bankPlace}
 use Rattle.terrain.specs.Reach.{reach}
-use Rattle.terrain.specs.Tally.{tally}
+use Rattle.terrain.specs.Tally.{tally, placeBy}
 use Rattle.terrain.specs.declared.Place.{Place}
-
--- a place as code has it, where a hold counts as that number
-abbrev pub placeBy : ℕ → ℕ → ℕ → Place
-placeBy hold edge flat = record { flat = min flat edge; held = cond (ltb edge flat) hold 0 }
 
 pub place-past : (hold edge flat : ℕ) → edge < flat → placeBy hold edge flat ≡ record { flat = edge; held = hold }
 place-past hold edge flat h = rw (lt-ltb edge flat h, min-eq-right {n = edge} {m = flat} (omega arith))
@@ -62,25 +58,19 @@ abbrev bankFlat : ℕ → ℕ → ℕ → ℕ
 bankFlat number x y = numWaves * waveLength * number + waveLength * x + y
 
 map-place-cut : (hold x y : ℕ) → placeBy hold mapEdge (mapFlat (min x reach) (min y reach)) ≡ placeBy hold mapEdge (mapFlat x y)
-map-place-cut hold x y = same-place hold mapEdge (flat (min x reach) (min y reach)) (flat x y) (pick (cut reach x) (cut reach y))
+map-place-cut hold x y = same-place hold mapEdge (mapFlat (min x reach) (min y reach)) (mapFlat x y) (pick (cut reach x) (cut reach y))
   where
-    flat : ℕ → ℕ → ℕ
-    flat = mapFlat
-
     pick : (min x reach ≡ x) ⊎ ((min x reach ≡ reach) × (reach < x)) → (min y reach ≡ y) ⊎ ((min y reach ≡ reach) × (reach < y))
-        → (flat (min x reach) (min y reach) ≡ flat x y) ⊎ ((mapEdge < flat (min x reach) (min y reach)) × (mapEdge < flat x y))
+        → (mapFlat (min x reach) (min y reach) ≡ mapFlat x y) ⊎ ((mapEdge < mapFlat (min x reach) (min y reach)) × (mapEdge < mapFlat x y))
     pick (inl e) (inl f) = inl (omega arith)
     pick (inl e) (inr f) = inr (omega arith)
     pick (inr e) f = inr (omega arith)
 
 bank-place-cut : (hold number x y : ℕ) → placeBy hold bankEdge (bankFlat number (min x reach) (min y reach)) ≡ placeBy hold bankEdge (bankFlat number x y)
-bank-place-cut hold number x y = same-place hold bankEdge (flat (min x reach) (min y reach)) (flat x y) (pick (cut reach x) (cut reach y))
+bank-place-cut hold number x y = same-place hold bankEdge (bankFlat number (min x reach) (min y reach)) (bankFlat number x y) (pick (cut reach x) (cut reach y))
   where
-    flat : ℕ → ℕ → ℕ
-    flat = bankFlat number
-
     pick : (min x reach ≡ x) ⊎ ((min x reach ≡ reach) × (reach < x)) → (min y reach ≡ y) ⊎ ((min y reach ≡ reach) × (reach < y))
-        → (flat (min x reach) (min y reach) ≡ flat x y) ⊎ ((bankEdge < flat (min x reach) (min y reach)) × (bankEdge < flat x y))
+        → (bankFlat number (min x reach) (min y reach) ≡ bankFlat number x y) ⊎ ((bankEdge < bankFlat number (min x reach) (min y reach)) × (bankEdge < bankFlat number x y))
     pick (inl e) (inl f) = inl (omega arith)
     pick (inl e) (inr f) = inr (omega arith)
     pick (inr e) f = inr (omega arith)

@@ -66,7 +66,7 @@ pub record Start : Type 0 where
   pub flat : ℕ
   pub holds : Holds
 
--- "Where the Rust would read past the end, flat is held, and that reading adds 1 to `held`."
+-- "Where the Rust would read past the end, flat is held .. and that reading adds 1 to `held`."
 abbrev pub heldPlace : Holds → ℕ → ℕ → Start
 heldPlace hold edge flat = record { flat = min flat edge; holds = cond (ltb edge flat) hold none }
 
@@ -98,7 +98,7 @@ terrainLookup map x y =
       holds = place .holds;
     }
 
--- The bank, read as three terrains of 64 waves; "flat is held at 25,209 (bank)".
+-- The bank, read as three terrains of 64 waves; "flat is held at .. 25,209 (bank)".
 abbrev pub numWaves : ℕ
 numWaves = 64
 

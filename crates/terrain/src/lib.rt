@@ -1,16 +1,14 @@
 // The terrains: how many there are, and their height at a point.
 // Based on MIT-licensed code (c) 2021 by Emilie Gillet (emilie.o.gillet@gmail.com)
 ghost use mathlib.Core.Path.{_≡_};
-ghost use mathlib.Core.Bool.{cond};
 ghost use Prim.Native.Nat.{_+_, _≤_, min};
-ghost use lib.Dec.{ltb};
 ghost use lib.ListN.{length};
 ghost use Rattle.words.specs.Binary32.{_⊖_};
 ghost use Rattle.words.specs.Parts.{wholePart, wholeFloat};
 ghost use Rattle.oscillator.specs.Bank.{bankLength};
 ghost use Rattle.terrain.specs.Layers.{Lent, numTerrains, layerTop};
 ghost use Rattle.terrain.specs.Reach.{reach};
-ghost use Rattle.terrain.specs.Tally.{counted, holdsBy};
+ghost use Rattle.terrain.specs.Tally.{placeBy, counted, holdsBy};
 ghost use Rattle.terrain.specs.Heights.{mapLength, squashOf, terrain0, terrain1, terrain2, terrain3, terrain4, terrainLookup, terrainLookupWt, unheld, terrainOf};
 use oscillator::bank::TABLE_SIZE_F;
 use oscillator::bank::WAVE_LENGTH;
@@ -60,7 +58,7 @@ pub const MAP_EDGE: usize = 4030;
 
 pub const BANK_EDGE: usize = 25209;
 
-// A held reading of the map and of the bank, as numbers of which some thousands can be summed.
+// A held reading of the map and of the bank, as numbers: up to 65,535 of each can be summed.
 const MAP_HELD: u32 = 65536;
 
 const BANK_HELD: u32 = 1;
@@ -147,7 +145,7 @@ fn coordinate_at(x: f32) -> Coordinate
 
 // `flat`, held at an edge, where that counts as `hold`.
 fn held_place(hold: u32, edge: usize, flat: usize) -> Place
-    ensures { λ r. ⌜ r ≡ record { flat = min flat edge; held = cond (ltb edge flat) hold 0 } ⌝ }
+    ensures { λ r. ⌜ r ≡ placeBy hold edge flat ⌝ }
 {
     if flat > edge {
         Place {

@@ -1,11 +1,16 @@
 -- What the five counts have to do with `held` goes over from one frame or reading to sums of them.
 use mathlib.Core.Path.{_≡_}
-use mathlib.Core.Bool.{Bool, true, false}
+use mathlib.Core.Bool.{Bool, true, false, cond}
 use Prim.Native.Nat.{ℕ, zero, suc, _+_, _≤_}
 use native.Mathlib.Omega.{arith}
 use Rattle.utils.specs.Holds.{none, ofFrame, ofMap, ofBank, plus, total, OfFrames, OfReadings}
 use Rattle.utils.specs.Frames.{eachOf, sumOf}
 use Rattle.utils.specs.declared.holds.Holds.{Holds}
+
+-- one of two things
+pub either : {A : Type 0} (P : A → Type 0) (b : Bool) (x y : A) → P x → P y → P (cond b x y)
+either P true x y p q = p
+either P false x y p q = q
 
 -- Something that sums have where their parts do.
 pub record Summed (P : Holds → Type 0) : Type 0 where

@@ -1,11 +1,11 @@
 -- Holds are summed by one law, for frames, rows and calls: the total of two lists is the sum of their totals. Each law goes by the record's fields,
 -- all six in one sentence of arithmetic.
 use mathlib.Core.Path.{_≡_, sym, ap, _∙_}
-use mathlib.Core.Bool.{Bool, true, false}
+use mathlib.Core.Bool.{Bool, true, false, _||_}
 use mathlib.Core.List.{List, [], _∷_, _++_}
 use Prim.Native.Nat.{ℕ, _+_, _≤_}
 use native.Mathlib.Omega.{arith}
-use Rattle.utils.specs.Holds.{none, ofFrame, ofMap, ofBank, plus, total, AtMost, OfFrames, OfReadings}
+use Rattle.utils.specs.Holds.{none, once, ofFrame, ofMap, ofBank, plus, total, AtMost}
 use Rattle.utils.specs.declared.holds.Holds.{Holds}
 
 -- two records of the same counts
@@ -79,16 +79,14 @@ most-map = most-of (omega arith)
 pub most-bank : AtMost 1 ofBank
 most-bank = most-of (omega arith)
 
+once-most : (b : Bool) → once b ≤ 1
+once-most true = omega arith
+once-most false = omega arith
+
 pub most-frame : (phase position level : Bool) → AtMost 1 (ofFrame phase position level)
 unfolding ofFrame
-most-frame true true true = most-of (omega arith)
-most-frame true true false = most-of (omega arith)
-most-frame true false true = most-of (omega arith)
-most-frame true false false = most-of (omega arith)
-most-frame false true true = most-of (omega arith)
-most-frame false true false = most-of (omega arith)
-most-frame false false true = most-of (omega arith)
-most-frame false false false = most-none 1
+most-frame phase position level =
+    most-of (omega (arith, once-most (phase || position || level), once-most phase, once-most position, once-most level))
 
 pub most-more : {m n : ℕ} {h : Holds} → m ≤ n → AtMost m h → AtMost n h
 most-more l p = most-of (omega (arith, p))

@@ -10,11 +10,12 @@ use Rattle.utils.specs.declared.holds.Holds.{Holds}
 abbrev pub none : Holds
 none = record { held = 0; phase = 0; «wave_position» = 0; level = 0; map = 0; bank = 0 }
 
--- What counts once, or not at all.
+-- 1 where something was held.
 abbrev pub once : Bool → ℕ
 once held = cond held 1 0
 
--- A frame of the wavetable voice or of the plain oscillator: "A frame with any hold adds 1 to `held`", and "may have several kinds; it counts once in each".
+-- A frame of the wavetable voice or of the plain oscillator: "A frame with any hold adds 1 to `held`", which "keeps its old meaning"; and it "may
+-- have several kinds; it counts once in each".
 unfoldable pub ofFrame : Bool → Bool → Bool → Holds
 ofFrame phase position level =
     record {
@@ -65,7 +66,7 @@ mostCount = 18446744073709551615
 
 -- ---- What the counts have to do with `held`.
 
--- Of frames, any number: each count is at most `held`, and `held` at most their sum.
+-- Of frames, any number: each count is at most `held`, and `held` at most their sum. They hold no map and no bank.
 pub record OfFrames (h : Holds) : Type 0 where
   pub phase-within : h .phase ≤ h .held
   pub position-within : h .«wave_position» ≤ h .held
@@ -74,7 +75,7 @@ pub record OfFrames (h : Holds) : Type 0 where
   pub no-map : h .map ≡ 0
   pub no-bank : h .bank ≡ 0
 
--- Of readings of the terrain voice: `held` is map plus bank.
+-- Of readings of the terrain voice: `held` is map plus bank, and nothing else is held.
 pub record OfReadings (h : Holds) : Type 0 where
   pub held-is : h .held ≡ h .map + h .bank
   pub no-phase : h .phase ≡ 0

@@ -1,6 +1,5 @@
 // What was held: counts that go from a reading up to the answer of a call, and are summed on the way.
 ghost use mathlib.Core.Path.{_≡_};
-ghost use mathlib.Core.Bool.{cond};
 ghost use Rattle.utils.specs.Holds.{none, once, ofFrame, plus, AtMost, mostCount};
 
 pub struct Holds {

@@ -86,7 +86,7 @@ module _ (sine : List Float) (bank : List ℤ) (map : List ℕ) (run run2 : List
       toBits binary32
       (sineOf sine (phaseOf (getD run2 (s .ij) nan) (zAt s (s .ij)) (getD run2 (s .ij + 1) nan) (zAt s (s .ij + 1))))
 
-  -- "that reading adds 1 to `held`": two oversamples of two layers.
+  -- "that reading adds 1 to `held`": two oversamples of two layers. "what document 01 leaves uncounted stays so": the layer number.
   abbrev pub frameHolds : Frame → Holds
   frameHolds s =
       let layer = layerOf (layerTop map) (s .at) .whole in

@@ -86,7 +86,7 @@ yTop = 7
 abbrev pub zTop : ℕ
 zTop = 6
 
--- "Positions (whole parts) have tops. A greater one is held at its top, and the fraction is taken against the held number."
+-- "Positions (whole parts) have tops .. A greater one is held at its top, and the fraction is taken against the held number."
 unfoldable pub partsOf : Positions → Parts
 partsOf s =
     record {
@@ -170,7 +170,7 @@ rendered bank high low size parameters s =
       holds = sumOf (λ f. frame f .next) (λ f. frame f .holds) size start;
     }
 
--- The fresh state: `init`. "previous f0 is 55 / rate", the a0 that is handed in.
+-- The fresh state: `init`. Previous f0 is the a0 that is handed in, 55 divided by the rate.
 abbrev pub fresh : Float → WavetableEngine
 fresh a0 =
     record {

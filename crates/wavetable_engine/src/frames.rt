@@ -83,7 +83,7 @@ fn held(p: Parts) -> Holds
     utils::holds::of_frame(p.phase.held, p.x.held | p.y.held, p.z.held)
 }
 
-// Whether a frame holds anything.
+// Whether a frame holds anything: test by test, which costs less than one sum of all four, since nearly every frame fails all.
 fn any_held(p: Parts) -> bool
     ensures { λ r. ⌜ r ≡ (p .phase .held || (p .x .held || (p .y .held || p .z .held))) ⌝ }
 {

@@ -5,10 +5,10 @@ use Rattle.c_calls.proofs.keep.Statement.{statement}
 use Rattle.c_calls.proofs.keep.Tie as tie
 
 abbrev Inv-loop : tie.InvT-loop
-Inv-loop held kept₀ i₀ kept i = i ≤ 13
+Inv-loop state kept₀ i₀ kept i = i ≤ 13
 
 abbrev μ-loop : tie.MeasureT-loop
-μ-loop held kept₀ i₀ kept i = 13 - i
+μ-loop state kept₀ i₀ kept i = 13 - i
 
 loop-holds : tie.Need-loop-holds Inv-loop μ-loop
 loop-holds c = search needs
@@ -16,8 +16,8 @@ loop-holds c = search needs
 mul-kept : tie.Need-mul-kept Inv-loop μ-loop
 mul-kept c = search needs
 
-element-copy-out-kept : tie.Need-element-copy-out-kept Inv-loop μ-loop
-element-copy-out-kept c = search needs
+array-read-kept : tie.Need-array-read-kept Inv-loop μ-loop
+array-read-kept c = search needs
 
 mul-kept-2 : tie.Need-mul-kept-2 Inv-loop μ-loop
 mul-kept-2 c = search needs
@@ -45,7 +45,7 @@ keep-spec =
     μ-loop
     loop-holds
     mul-kept
-    element-copy-out-kept
+    array-read-kept
     mul-kept-2
     element-write-kept
     add-i
