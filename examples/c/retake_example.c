@@ -1,4 +1,5 @@
 /* Reads a score of three rows, renders it on the wavetable voice, edits its second row, puts a bar of four rows in and takes it out.
+ * Then a score that holds positions, on the plain oscillator: of which kind, and turned down.
  *
  *     cc -Iinclude examples/c/retake_example.c target/staticlib/libretake_c.a -o target/retake_example
  *     target/retake_example
@@ -9,7 +10,7 @@
 
 #include "retake.h"
 
-enum { ROWS = 3, BAR = 4, ROOM = ROWS + BAR, FRAMES = 24, SAMPLES = ROOM * FRAMES };
+enum { ROWS = 3, BAR = 4, ROOM = ROWS + BAR, FRAMES = 24, SAMPLES = ROOM * FRAMES, LONG = 80, MOST = ROWS * LONG };
 
 static const char text[] =
     "note timbre morph harmonics restart\n"
@@ -17,8 +18,14 @@ static const char text[] =
     "42700000 3f000000 00000000 00000000 00000000\n"
     "42700000 3f000000 00000000 00000000 00000001\n";
 
+static const char bright[] =
+    "note timbre morph harmonics restart\n"
+    "42700000 3f100000 00000000 00000000 00000001\n"
+    "42700000 3f800000 00000000 00000000 00000000\n"
+    "42700000 3f800000 00000000 00000000 00000000\n";
+
 static int16_t bank[RETAKE_BANK_LENGTH];
-static uint32_t rows[ROOM * RETAKE_ROW_WORDS], out[SAMPLES], aux[SAMPLES], kept[ROOM * RETAKE_KEPT_WORDS];
+static uint32_t rows[ROOM * RETAKE_ROW_WORDS], out[MOST], aux[MOST], kept[ROOM * RETAKE_KEPT_WORDS];
 static uint32_t before[ROWS * FRAMES];
 
 /* Prints a call's report; 1 if it was refused. */
@@ -29,6 +36,27 @@ static int refused(const char *call, retake_report report) {
         return 1;
     }
     printf("%s: %" PRIu64 " rows, held %" PRIu64 "\n", call, report.rows, report.held);
+    if (report.held > 0) {
+        printf("    phase %" PRIu64 ", wave position %" PRIu64 ", level %" PRIu64 ", map %" PRIu64 ", bank %" PRIu64 "\n",
+               report.counts.phase, report.counts.wave_position, report.counts.level, report.counts.map,
+               report.counts.bank);
+    }
+    return 0;
+}
+
+/* Blocks of 80 frames, in which timbre 1 carries the waveform past its top: its holds, and the same score turned down a little. */
+static int hold(retake_score *score) {
+    const retake_settings settings = {RETAKE_OSCILLATOR, 48000, LONG, bank, RETAKE_BANK_LENGTH, NULL, 0};
+    const retake_take take = {out, MOST, aux, MOST, kept, ROOM * RETAKE_KEPT_WORDS};
+    uint64_t k;
+
+    if (refused("read", retake_read_text(score, bright, sizeof bright - 1))) return 1;
+    if (refused("render", retake_render_score(&settings, score, &take))) return 1;
+    for (k = 1; k < score->count; k++) {
+        retake_row row = retake_row_at(score, k);
+        row.timbre = 0.9999f;
+        if (refused("edit", retake_edit_row(&settings, score, &take, k, row))) return 1;
+    }
     return 0;
 }
 
@@ -75,5 +103,5 @@ int main(void) {
     }
     if (memcmp(before, out, sizeof before) != 0) return 1;
     printf("without it: %" PRIu64 " rows, the samples as before\n", score.count);
-    return 0;
+    return hold(&score);
 }
