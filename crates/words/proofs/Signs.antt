@@ -22,7 +22,7 @@ not_below (pos k) e = (k, refl)
 not_below (negsuc k) e = absurd (true≢false e)
 
 pub widened : (n : ℤ) → SFits w32 n → to_z w64 (of_z w64 (to_z w32 (of_z w32 n))) ≡ n
-widened n f = ap (λ (z : ℤ). to_z w64 (of_z w64 z)) (to_z-of_z f) ∙ to_z-of_z (sfits_widen tt f)
+widened n f = ap (λ (z : ℤ). to_z w64 (of_z w64 z)) (to_z-of_z {w = w32} f) ∙ to_z-of_z {w = w64} (sfits_widen {w = w32} {w' = w64} tt f)
 
 -- what is left of 0 when a number below 0 is taken off
 taken : (n : ℤ) (k : ℕ) → SFits w32 n → n ≡ negsuc k → pos 0 -ℤ to_z w64 (of_z w64 (to_z w32 (of_z w32 n))) ≡ pos (suc k)
