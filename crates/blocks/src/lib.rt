@@ -8,7 +8,7 @@ use utils::holds::Holds;
 use voice::State;
 
 // The state after a block, and what was held.
-#[derive(Drop)]
+#[derive(Clone, Copy)]
 pub struct Block {
     pub state: State,
     pub holds: Holds,

@@ -22,7 +22,7 @@ const RENDER: u32 = 3;
 const JUNK: u32 = 0xffffffff;
 
 // A call: its kind, a row's place and a row's words.
-#[derive(Drop)]
+#[derive(Clone, Copy)]
 struct Call {
     kind: u32,
     position: usize,
@@ -218,7 +218,7 @@ type Samples = [u32; ROOM * FRAMES];
 
 type States = [u32; ROOM * KEPT];
 
-#[derive(Drop)]
+#[derive(Clone, Copy)]
 struct Take {
     out: Samples,
     aux: Samples,

@@ -20,7 +20,7 @@ pub const MOST_EDITS: usize = 32;
 pub const BANK_BYTES: usize = BANK_LENGTH * 2;
 
 // How many rows and edits the texts have, or the first refusal.
-#[derive(Drop)]
+#[derive(Clone, Copy)]
 pub enum Inputs {
     Taken(usize, usize),
     Turned(Refusal),

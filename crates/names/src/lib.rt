@@ -11,14 +11,14 @@ use text::pieces::{SPACE, column_of, count_fields, piece_end};
 pub const MOST_NAMES: usize = 6;
 
 // How many words a row has, and how many names stand on the first line: a line has a word for each of these.
-#[derive(Drop)]
+#[derive(Clone, Copy)]
 pub struct Shape {
     pub width: usize,
     pub names: usize,
 }
 
 // Where a word of a row comes from.
-#[derive(Drop)]
+#[derive(Clone, Copy)]
 pub enum Source {
     // A column of the text.
     Column(usize),

@@ -20,14 +20,14 @@ pub fn cutoff(f0: f32) -> f32
     utils::min(TABLE_SIZE_F * f0, 1.0)
 }
 
-#[derive(Drop)]
+#[derive(Clone, Copy)]
 pub struct Differentiator {
     pub lp: f32,
     pub previous: f32,
 }
 
 // A sample, and the differentiator that the next one is made with.
-#[derive(Drop)]
+#[derive(Clone, Copy)]
 pub struct Differentiated {
     pub next: Differentiator,
     pub sample: f32,

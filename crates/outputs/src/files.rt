@@ -3,14 +3,14 @@ ghost use Rattle.std.specs.Prelude.{◌+◌, ◌*◌, ◌≤◌, length};
 ghost use Rattle.outputs.specs.Files.{words_file, files_of, file_room, Stands, Handed};
 
 // Where a file stands in the bytes lent for it: its name up to byte `name`, what it holds from there to byte `end`.
-#[derive(Drop)]
+#[derive(Clone, Copy)]
 pub struct Place {
     pub name: usize,
     pub end: usize,
 }
 
 // The files that are to be written, each in the bytes lent for it; or that there are none.
-#[derive(Drop)]
+#[derive(Clone, Copy)]
 pub enum Files {
     Nothing,
     Both(Place, Place),

@@ -16,7 +16,7 @@ use text::pieces::{LF, count_fields, piece_end};
 use values::{FIELD, line_number, write_row};
 
 // What reading a text gives.
-#[derive(Drop)]
+#[derive(Clone, Copy)]
 pub enum ReadAnswer {
     // The number of rows.
     Read(usize),

@@ -37,7 +37,7 @@ const REMOVAL: u32 = 2;
 const JUNK: u32 = 0xffffffff;
 
 // What a score is played with, and where its rows start in the file.
-#[derive(Drop)]
+#[derive(Clone, Copy)]
 struct Score {
     instrument: u32,
     rate: u32,
@@ -49,7 +49,7 @@ struct Score {
 }
 
 // A call after the rendering.
-#[derive(Drop)]
+#[derive(Clone, Copy)]
 struct Call {
     kind: u32,
     position: usize,

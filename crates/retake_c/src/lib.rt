@@ -20,7 +20,7 @@ use take::Answer;
 use writer::WriteAnswer;
 
 // The number of an answer, and its first two values.
-#[derive(Drop)]
+#[derive(Clone, Copy)]
 struct Values {
     number: u32,
     first: u64,

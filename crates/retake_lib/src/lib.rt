@@ -23,7 +23,7 @@ pub const PRINTED_ROOM: usize = MOST_LINE + MOST_EDITS * MOST_LINE;
 pub const FILE_ROOM: usize = NAME_BYTES + MOST_ROWS * FRAMES * 4;
 
 // How many of the lent bytes are to be printed, and where the files stand in those lent for them.
-#[derive(Drop)]
+#[derive(Clone, Copy)]
 pub struct Lengths {
     pub printed: usize,
     pub files: Files,

@@ -13,7 +13,7 @@ use utils::holds::Holds;
 use voice::KEPT_WORDS;
 
 // What stays the same from row to row: the instrument's number, the rate in Hz, and the frames of a row.
-#[derive(Drop)]
+#[derive(Clone, Copy)]
 pub struct Settings {
     pub instrument: u32,
     pub rate: u32,
@@ -21,7 +21,7 @@ pub struct Settings {
 }
 
 // How many rows were rendered, and what they held.
-#[derive(Drop)]
+#[derive(Clone, Copy)]
 pub struct Report {
     pub rows: usize,
     pub holds: Holds,

@@ -12,7 +12,7 @@ use utils::holds::Holds;
 use voice::KEPT_WORDS;
 
 // A row as it was made: the words that it keeps, and what it held.
-#[derive(Drop)]
+#[derive(Clone, Copy)]
 struct Made {
     kept: [u32; KEPT_WORDS],
     holds: Holds,
@@ -67,7 +67,7 @@ fn make_row(
 }
 
 // What a row held, and whether it keeps the words that stood there.
-#[derive(Drop)]
+#[derive(Clone, Copy)]
 struct Step {
     holds: Holds,
     same: bool,

@@ -45,7 +45,7 @@ pub const FULL: u32 = 13;
 pub const PAPER: u32 = 14;
 
 // The number and the place of a refusal; number 0 where nothing is refused.
-#[derive(Drop)]
+#[derive(Clone, Copy)]
 pub struct Refusal {
     pub number: u32,
     pub place: usize,

@@ -11,7 +11,7 @@ use utils::parameter_interpolator::ParameterInterpolator;
 
 pub mod sine;
 
-#[derive(Drop)]
+#[derive(Clone, Copy)]
 pub struct FastSineOscillator {
     // Oscillator state.
     pub x: f32,
@@ -59,7 +59,7 @@ impl FastSineOscillator {
 }
 
 // What `render_quadrature` carries from sample to sample.
-#[derive(Drop)]
+#[derive(Clone, Copy)]
 struct Quadrature {
     x: f32,
     y: f32,

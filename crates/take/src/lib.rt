@@ -16,7 +16,7 @@ use score::rows::ROW_WORDS;
 use voice::KEPT_WORDS;
 
 // What a call answers: what it rendered, or what it refuses.
-#[derive(Drop)]
+#[derive(Clone, Copy)]
 pub enum Answer {
     Done(Report),
     Refused(Refusal),

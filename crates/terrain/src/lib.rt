@@ -15,21 +15,21 @@ use sine_oscillator::sine::sine;
 use utils::holds::Holds;
 
 // A height, and what its reading held, in one number: 0, or MAP_HELD or BANK_HELD. So a loop over readings has one addition for all counts.
-#[derive(Drop)]
+#[derive(Clone, Copy)]
 pub struct Height {
     pub value: f32,
     pub held: u32,
 }
 
 // Where a reading starts, and what was held there.
-#[derive(Drop)]
+#[derive(Clone, Copy)]
 struct Place {
     flat: usize,
     held: u32,
 }
 
 // A coordinate of a reading: its whole part, as far as that decides, and its fraction.
-#[derive(Drop)]
+#[derive(Clone, Copy)]
 struct Coordinate {
     whole: usize,
     fraction: f32,

@@ -12,7 +12,7 @@ pub const RUN_LENGTH: usize = 2 * MOST_FRAMES;
 pub const CORNERS_LENGTH: usize = 8 * MOST_FRAMES;
 
 // The parameters of a block.
-#[derive(Drop)]
+#[derive(Clone, Copy)]
 pub struct EngineParameters {
     // Pitch in semitones, 0 to 120.
     pub note: f32,

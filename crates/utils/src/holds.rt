@@ -2,7 +2,7 @@
 ghost use Rattle.std.specs.Prelude.{◌≡◌};
 ghost use Rattle.utils.specs.Holds.{none, once, of_frame, plus, AtMost, most_count};
 
-#[derive(Drop)]
+#[derive(Clone, Copy)]
 pub struct Holds {
     // Frames of the wavetable voice and of the plain oscillator with any hold, readings of the terrain voice that were held.
     pub held: usize,

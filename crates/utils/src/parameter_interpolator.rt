@@ -4,7 +4,7 @@ ghost use Rattle.std.specs.Prelude.{◌≡◌};
 ghost use Rattle.utils.specs.Interpolator.{interpolator, stepped};
 
 // A parameter on its way to a new value. Its value after the last step goes back to the voice's state.
-#[derive(Drop)]
+#[derive(Clone, Copy)]
 pub struct ParameterInterpolator {
     pub value: f32,
     pub increment: f32,

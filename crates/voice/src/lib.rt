@@ -20,14 +20,14 @@ pub const OSCILLATOR: u32 = 3;
 // The words that are kept of a state.
 pub const KEPT_WORDS: usize = 13;
 
-#[derive(Drop)]
+#[derive(Clone, Copy)]
 pub enum Voice {
     Wavetable,
     Terrain,
     Oscillator,
 }
 
-#[derive(Drop)]
+#[derive(Clone, Copy)]
 pub enum State {
     Wavetable(WavetableEngine),
     Terrain(WaveTerrainEngine),

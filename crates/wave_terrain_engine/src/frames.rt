@@ -20,7 +20,7 @@ pub const OVERSAMPLING: usize = 2;
 pub const SCALE: f32 = 1.0 / OVERSAMPLING as f32;
 
 // What the frame loop interpolates: the path's offset and the layer.
-#[derive(Drop)]
+#[derive(Clone, Copy)]
 pub struct Interpolators {
     pub offset: ParameterInterpolator,
     pub terrain_idx: ParameterInterpolator,
@@ -176,7 +176,7 @@ pub fn finish(table: &[f32; 641], phases: &[f32], aux: &mut [u32])
 }
 
 // The interpolators after a block's frames, and what the readings held.
-#[derive(Drop)]
+#[derive(Clone, Copy)]
 pub struct Frames {
     pub end: Interpolators,
     pub holds: Holds,

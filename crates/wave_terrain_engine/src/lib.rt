@@ -23,7 +23,7 @@ use utils::parameter_interpolator::ParameterInterpolator;
 
 mod frames;
 
-#[derive(Drop)]
+#[derive(Clone, Copy)]
 pub struct WaveTerrainEngine {
     pub path: FastSineOscillator,
     pub offset: f32,
@@ -31,7 +31,7 @@ pub struct WaveTerrainEngine {
 }
 
 // The state after a block, and what its readings held.
-#[derive(Drop)]
+#[derive(Clone, Copy)]
 pub struct Block {
     pub state: WaveTerrainEngine,
     pub holds: Holds,

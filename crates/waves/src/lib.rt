@@ -18,7 +18,7 @@ const SPREAD: usize = 101;
 const SPREAD_Y: usize = 8 * SPREAD % WAVES;
 
 // Where the four waves of a level start.
-#[derive(Drop)]
+#[derive(Clone, Copy)]
 pub struct Level {
     pub x0y0: usize,
     pub x1y0: usize,
@@ -27,7 +27,7 @@ pub struct Level {
 }
 
 // Where the eight waves of a frame start, by its whole x, y and z.
-#[derive(Drop)]
+#[derive(Clone, Copy)]
 pub struct Places {
     pub key: u32,
     pub z0: Level,

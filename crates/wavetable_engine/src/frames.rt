@@ -16,7 +16,7 @@ use utils::parameter_interpolator::ParameterInterpolator;
 use words::Part;
 
 // The phase, the smoothed x, y and z, and the four parameters on their way.
-#[derive(Drop)]
+#[derive(Clone, Copy)]
 pub struct Positions {
     pub phase: f32,
     pub x_lp: f32,
@@ -29,7 +29,7 @@ pub struct Positions {
 }
 
 // The positions' parts.
-#[derive(Drop)]
+#[derive(Clone, Copy)]
 pub struct Parts {
     pub x: Part,
     pub y: Part,
@@ -38,7 +38,7 @@ pub struct Parts {
 }
 
 // The positions after a block, and what its frames held.
-#[derive(Drop)]
+#[derive(Clone, Copy)]
 pub struct Walked {
     pub end: Positions,
     pub holds: Holds,

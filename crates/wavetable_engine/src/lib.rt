@@ -22,7 +22,7 @@ use utils::parameter_interpolator::ParameterInterpolator;
 mod frames;
 
 // The state, in the order of its kept words.
-#[derive(Drop)]
+#[derive(Clone, Copy)]
 pub struct WavetableEngine {
     pub phase: f32,
     pub x_pre_lp: f32,
@@ -39,14 +39,14 @@ pub struct WavetableEngine {
 }
 
 // The state after a block, and what its frames held.
-#[derive(Drop)]
+#[derive(Clone, Copy)]
 pub struct Block {
     pub state: WavetableEngine,
     pub holds: Holds,
 }
 
 // What a block works out before its frames.
-#[derive(Drop)]
+#[derive(Clone, Copy)]
 pub struct SetUp {
     pub x_pre_lp: f32,
     pub y_pre_lp: f32,

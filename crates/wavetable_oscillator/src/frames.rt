@@ -20,7 +20,7 @@ use utils::parameter_interpolator::ParameterInterpolator;
 const SCALE: f32 = 1.0;
 
 // The phase, and the three parameters on their way.
-#[derive(Drop)]
+#[derive(Clone, Copy)]
 pub struct Positions {
     pub phase: f32,
     pub frequency_modulation: ParameterInterpolator,
@@ -29,7 +29,7 @@ pub struct Positions {
 }
 
 // The differentiator, and the low-pass filter behind it.
-#[derive(Drop)]
+#[derive(Clone, Copy)]
 pub struct Filters {
     pub lp: f32,
     pub differentiator: Differentiator,

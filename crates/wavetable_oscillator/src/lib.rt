@@ -27,7 +27,7 @@ const NUM_WAVES_F: f32 = NUM_WAVES as f32;
 const MAX_FREQUENCY: f32 = 0.25;
 
 // The state, in the order of its kept words.
-#[derive(Drop)]
+#[derive(Clone, Copy)]
 pub struct WavetableOscillator {
     pub phase: f32,
     pub frequency: f32,
@@ -38,14 +38,14 @@ pub struct WavetableOscillator {
 }
 
 // The state after a block, and what its frames held.
-#[derive(Drop)]
+#[derive(Clone, Copy)]
 pub struct Block {
     pub state: WavetableOscillator,
     pub holds: Holds,
 }
 
 // Where a block's parameters go to.
-#[derive(Drop)]
+#[derive(Clone, Copy)]
 pub struct Targets {
     pub frequency: f32,
     pub amplitude: f32,

@@ -51,7 +51,7 @@ pub fn whole_i32(x: f32) -> i32
 }
 
 // A power of two, as a number and as a float.
-#[derive(Drop)]
+#[derive(Clone, Copy)]
 struct Unit {
     unit: u64,
     float: f32,
@@ -175,7 +175,7 @@ pub fn whole_i32_float(x: f32) -> f32
 }
 
 // A position: its whole part, its fraction, and whether the whole part was held at its top.
-#[derive(Drop)]
+#[derive(Clone, Copy)]
 pub struct Part {
     pub whole: usize,
     pub fraction: f32,

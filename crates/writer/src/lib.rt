@@ -15,7 +15,7 @@ use text::word::{WORD_DIGITS, put_word};
 use values::FIELD;
 
 // What writing a score gives.
-#[derive(Drop)]
+#[derive(Clone, Copy)]
 pub enum WriteAnswer {
     // The number of bytes.
     Written(usize),
