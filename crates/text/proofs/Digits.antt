@@ -57,7 +57,7 @@ each_digit_of (x ∷ a) b = go (is_digit x) (each_digit_of a b)
 pub followed : (number : ℕ) (a b : List ℕ) → followed_by number (a ++ b) ≡ followed_by (followed_by number a) b
 unfolding followed_by
 followed number [] b = refl
-followed number (x ∷ a) b = followed _ a b
+followed number (x ∷ a) b = followed (number * 16 + digit_of x) a b
 
 module _ (text : List ℕ) (at : ℕ) where
   pub half_by_digits : at + 4 ≤ length text
