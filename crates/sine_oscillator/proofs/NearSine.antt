@@ -1,6 +1,6 @@
 -- The sine of a phase from 0 to below 8192 by one whole part, that of 512 times the phase: the fraction of the phase, its product with 512 and the
 -- product of the phase with 512 are exact, so the entry is the whole part modulo 512 and both fractions are the same number, rounded.
-use Rattle.core.specs.Prelude.{◌≡◌, ℕ, zero, suc, ◌+◌, ◌-◌, ◌*◌, ◌/◌, ◌%◌, ◌^◌, ◌<◌, ◌≤◌, Bool, true, false, ◌&&◌, T, eqb, ltb, leb, ℤ, pos, negsuc}
+use Rattle.std.specs.Prelude.{◌≡◌, ℕ, zero, suc, ◌+◌, ◌-◌, ◌*◌, ◌/◌, ◌%◌, ◌^◌, ◌<◌, ◌≤◌, Bool, true, false, ◌&&◌, T, eqb, ltb, leb, ℤ, pos, negsuc}
 use mathlib.Core.Path.{refl, sym, ap, ◌∙◌, subst}
 use mathlib.Core.Bool.{false≢true}
 use native.Mathlib.Nat.{mul_assoc, mul_right_comm, mul-one, one-mul, mul-le-mul_right, mod-lt, mod-eq_of_lt, mod-le, mod-one, le_trans, lt_of_le_of_lt}

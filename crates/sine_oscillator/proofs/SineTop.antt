@@ -1,6 +1,6 @@
 -- The sine's table is never read past its end: for every phase the whole part is at most 512, and the last entry that has a next one is 639.
 -- What a clamp to 0 and 1 gives is NaN, a zero or at most 1, and a product with 512 is then at most 512, since rounding keeps order.
-use Rattle.core.specs.Prelude.{◌≡◌, ℕ, zero, suc, ◌-◌, ◌*◌, ◌/◌, ◌%◌, ◌^◌, ◌<◌, ◌≤◌, Bool, true, false, cond, ◌&&◌, ◌||◌, T, eqb, ltb, pos}
+use Rattle.std.specs.Prelude.{◌≡◌, ℕ, zero, suc, ◌-◌, ◌*◌, ◌/◌, ◌%◌, ◌^◌, ◌<◌, ◌≤◌, Bool, true, false, cond, ◌&&◌, ◌||◌, T, eqb, ltb, pos}
 use mathlib.Core.Path.{refl, sym, ap, ◌∙◌}
 use mathlib.Core.Bool.{true≢false}
 use Prim.Native.Nat.{zero-le, compare}

@@ -1,5 +1,5 @@
 -- Document 01, "Path and terrain voice": the path oscillator, FastSineOscillator of `sine_oscillator.rs`.
-use Rattle.core.specs.Prelude.{ℕ, cond, ◌||◌, List}
+use Rattle.std.specs.Prelude.{ℕ, cond, ◌||◌, List}
 use Rattle.std.specs.Prelude.{Float}
 use Rattle.std.specs.Float.Ieee.{le}
 use Rattle.words.specs.Binary32.{◌⊕◌, ◌⊖◌, ◌⊗◌, ◌⊘◌, decimal}

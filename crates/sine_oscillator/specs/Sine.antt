@@ -1,5 +1,5 @@
 -- The source's `resources/sine.rs`, a period of 512 entries and a quarter more, and `sine` of `sine_oscillator.rs`.
-use Rattle.core.specs.Prelude.{List, [], ◌∷◌}
+use Rattle.std.specs.Prelude.{List, [], ◌∷◌}
 use Rattle.std.specs.Prelude.{Float}
 use Rattle.std.specs.Float.Ieee.{neg}
 use Rattle.words.specs.Binary32.{decimal}

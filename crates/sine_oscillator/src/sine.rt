@@ -1,6 +1,6 @@
 // Sine lookup table, and the sine by it.
 // Based on MIT-licensed code (c) 2016 by Emilie Gillet (emilie.o.gillet@gmail.com)
-ghost use Rattle.core.specs.Prelude.{◌≡◌, true, length, from_bits};
+ghost use Rattle.std.specs.Prelude.{◌≡◌, true, length, from_bits};
 ghost use Rattle.std.specs.Float.{binary32};
 ghost use Rattle.std.specs.Float.Ieee.{lt};
 ghost use Rattle.words.specs.Binary32.{decimal};

@@ -1,7 +1,7 @@
 -- The quadrature's loop, by the law of lent runs that a loop fills.
 use borrow.Author.Rules.{rules}
 use native.Mathlib.Omega.{arith}
-use Rattle.core.specs.Prelude.{◌≡◌, ℕ, ◌-◌, ◌≤◌}
+use Rattle.std.specs.Prelude.{◌≡◌, ℕ, ◌-◌, ◌≤◌}
 use mathlib.Core.Path.{refl, ap, ◌∙◌}
 use lib.Ieee.{nan}
 use Rattle.words.specs.Binary32.{◌⊗◌}
