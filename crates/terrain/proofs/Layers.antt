@@ -92,4 +92,4 @@ pub terrain_held : (sine : List Float) (bank : List ℤ) (map : List ℕ) (x y :
 terrain_held = terrain_has (AtMost 1) (most_none 1) most_map most_bank
 
 pub terrain_kinds : (sine : List Float) (bank : List ℤ) (map : List ℕ) (x y : Float) (i : ℕ) → OfReadings (terrain_of sine bank map x y i).holds
-terrain_kinds = terrain_has OfReadings readings_summed.none_has map_kinds bank_kinds
+terrain_kinds = terrain_has OfReadings readings_summed.of_none map_kinds bank_kinds
