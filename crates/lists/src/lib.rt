@@ -1,4 +1,6 @@
 // Runs of words: compared, copied, and moved within a longer one.
+#![tactic(auto)]
+
 ghost use Rattle.std.specs.Prelude.{◌≡◌, ◌+◌, ◌-◌, ◌*◌, ◌≤◌, ◌<◌, eqb, length, take, drop};
 ghost use Rattle.lists.specs.Lists.{put, shift_up, shift_down, same};
 
