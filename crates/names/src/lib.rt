@@ -1,4 +1,6 @@
 // A table of names and a text's first line: where each word of a row comes from.
+#![tactic(auto)]
+
 ghost use Rattle.std.specs.Prelude.{◌≡◌, cond, true, ◌≤◌, ltb, length, take};
 ghost use Rattle.names.specs.declared.Source.TheVariants.{Column};
 ghost use Rattle.text.specs.Text.{fields_of};
