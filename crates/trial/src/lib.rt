@@ -1,26 +1,43 @@
 // What the programs that try out the library share: they print, find the texts of an input, fill banks and maps, and tell one run of words or
 // bytes from another. No part of the product calls it. What is printed has no equation: no contract can say what the system writes.
+#![tactic(auto)]
+
 ghost use Rattle.std.specs.Prelude.{◌≡◌, ◌≤◌, ◌<◌, length};
 ghost use Rattle.trial.specs.Trial.{next_of, numbers, number_after, high_byte, sample_of, modulus, mixed_of, sum_of};
 
-use libc::STDOUT_FILENO;
+use std::io::Read;
 
-// Writes a text.
-pub fn say(text: &[u8]) {
-    io::write_all(STDOUT_FILENO, text);
+// Writes a text. What the system does not take is let go.
+pub fn say(rt: &impl Print, text: &[u8]) {
+    let _ = rt.write_all(text);
 }
 
 // Writes a space and a number in decimal.
-pub fn say_number(n: u64) {
-    say(b" ");
-    io::print_decimal(STDOUT_FILENO, n);
+pub fn say_number(rt: &impl Print, n: u64) {
+    let _ = print!(rt; " {n}");
 }
 
 // Writes a text and two numbers, each with a space before it.
-pub fn say_two(text: &[u8], first: u64, second: u64) {
-    say(text);
-    say_number(first);
-    say_number(second);
+pub fn say_two(rt: &impl Print, text: &[u8], first: u64, second: u64) {
+    say(rt, text);
+    say_number(rt, first);
+    say_number(rt, second);
+}
+
+// Reads standard input until the bytes are full, it ends or a read fails; how many bytes came.
+pub fn read_input(rt: &impl Input, bytes: &mut [u8]) -> usize
+    ensures { result ≤ length bytes.new }
+{
+    let mut from = rt.reader();
+    let mut at = 0;
+    while at < bytes.len() {
+        let got = from.read(&mut bytes[at..]).unwrap_or(0);
+        if got == 0 {
+            return at;
+        }
+        at += got;
+    }
+    at
 }
 
 // The next number of a series that any language can make: s = 1664525 s + 1013904223 mod 2^32.
