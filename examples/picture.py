@@ -1,7 +1,7 @@
 #!/usr/bin/env python3
 """Draws the example's take before and after its edits, with the rendered rows marked: usage: picture.py FILE.svg
 
-Runs target/bin/retake (from `rt check retake`) twice on the example folder, with no edits and with the edits, and draws what it wrote."""
+Runs target/bin/retake (from `examples/build retake`) twice on the example folder, with no edits and with the edits, and draws what it wrote."""
 import os
 import shutil
 import struct

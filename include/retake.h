@@ -4,7 +4,7 @@
  * Copyright (c) 2026 Wohketa (LICENSE). The voices are ported from mi-plaits-dsp-rs, Copyright (c) 2022
  * Oliver Rockstedt, under the same licence (NOTICE); a program that links the library ships both.
  *
- * Link with target/staticlib/libretake_c.a, which `rt staticlib retake_c` writes (x86-64 Linux).
+ * Link with target/staticlib/libretake_c.a, which `examples/build retake_c` writes (x86-64 Linux).
  *
  * Words and rows
  *

@@ -1,4 +1,4 @@
-//! Finds the proved library `libretake_c.a`, which `rt staticlib retake_c` writes.
+//! Finds the proved library `libretake_c.a`, which `examples/build retake_c` writes.
 
 use std::env;
 use std::path::PathBuf;
@@ -12,7 +12,7 @@ fn main() {
     if !library.exists() {
         eprintln!("{} is missing.", library.display());
         eprintln!(
-            "Run `rt staticlib retake_c` at the repository's top, or set RETAKE_LIB_DIR to the folder that has it."
+            "Run `examples/build retake_c` at the repository's top, or set RETAKE_LIB_DIR to the folder that has it."
         );
         std::process::exit(1);
     }
