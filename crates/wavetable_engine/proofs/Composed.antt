@@ -7,7 +7,7 @@ use lib.IntN.{ℤ}
 use lib.ListN.{length, get_or}
 use lib.Ieee.{Float, nan, binary32, to_bits}
 use Rattle.utils.specs.Holds.{total, AtMost}
-use Rattle.utils.specs.Frames.{state_after, each_of, sum_of, Filled}
+use Rattle.utils.specs.Frames.{state_after, sum_of, Filled}
 use Rattle.utils.specs.Rendered.{Renders}
 use Rattle.utils.proofs.Sums.{most_more}
 use Rattle.utils.proofs.Frames.{after_suc, sum_most, part_after, part_each, filled_each}

@@ -57,6 +57,9 @@ pub record Lists : Type 0 where
   pub zs : List Float
   pub phases : List Float
 
+abbrev pub lists : List ℕ → List Float → List Float → List Float → List Float → Lists
+lists keys xs ys zs phases = record { keys = keys; xs = xs; ys = ys; zs = zs; phases = phases }
+
 -- room for every frame
 pub record Room (size : ℕ) (l : Lists) : Type 0 where
   pub keys_room : size ≤ length l.keys

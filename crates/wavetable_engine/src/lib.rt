@@ -9,6 +9,8 @@
 //
 // AUX signal: low-fi (5-bit) output.
 // Based on MIT-licensed code (c) 2016 by Emilie Gillet (emilie.o.gillet@gmail.com)
+#![tactic(auto)]
+
 ghost use Rattle.std.specs.Prelude.{◌≡◌, length};
 ghost use Rattle.utils.specs.Rendered.{Places, Renders};
 ghost use Rattle.oscillator.specs.Bank.{bank_length};

@@ -3,12 +3,8 @@ use mathlib.Core.Path.{refl}
 use lib.Ieee.{of_bits}
 use Rattle.wavetable_engine.specs.Wavetable.{gain_of}
 use Rattle.words.specs.Binary32.{decimal}
-use Rattle.wavetable_engine.proofs.frames.gain.Statement.{statement}
-use Rattle.wavetable_engine.proofs.frames.gain.Tie as tie
+use Rattle.wavetable_engine.proofs.frames.gain.Goals as goal
 
-returns : tie.Need-returns
+pub returns : goal.returns
 unfolding gain_of of_bits decimal
 returns c = refl
-
-pub gain-spec : {M : Type 1} → statement M
-gain-spec = tie.close (tie.spec returns)
