@@ -1,4 +1,6 @@
 // Texts and numbers as the program `retake` and the writer of scores put them: decimal digits, and words and samples as bytes, low byte first.
+#![tactic(auto)]
+
 ghost use Rattle.std.specs.Prelude.{◌≡◌, ◌+◌, ◌*◌, ◌≤◌, ◌<◌, length};
 ghost use Rattle.formats.specs.Formats.{Written, most_digits, digits, decimal_of, bytes_of, low_first, i16_of, samples_of};
 
