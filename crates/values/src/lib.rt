@@ -1,4 +1,6 @@
 // Lines of values: words with one space between, and an LF.
+#![tactic(auto)]
+
 ghost use Rattle.std.specs.Prelude.{◌≡◌, true, [], ◌∷◌, ◌≤◌, ◌<◌, length, take, drop};
 ghost use Rattle.score.specs.Rows.{row_words};
 ghost use Rattle.score.specs.Limits.{row_within};
