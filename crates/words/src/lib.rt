@@ -1,4 +1,6 @@
 // Words and floats: a float's word, a word's float, whole parts, and whole numbers as floats.
+#![tactic(auto)]
+
 ghost use Rattle.std.specs.Prelude.{◌≡◌, cond};
 ghost use Prim.Native.Nat.{compare, min, ◌+◌, ◌*◌, ◌/◌, ◌≤◌, ◌<◌};
 ghost use Rattle.std.specs.Float.{binary32};
