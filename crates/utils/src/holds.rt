@@ -54,6 +54,7 @@ pub fn of_frame(phase: bool, wave_position: bool, level: bool) -> Holds
 }
 
 // The holds of two together.
+#[tactic(auto, unfolding(crate::specs::Holds::plus))]
 pub fn plus(a: Holds, b: Holds) -> Holds
     requires { AtMost most_count (plus a b) }
     ensures { result ≡ plus a b }

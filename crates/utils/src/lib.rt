@@ -1,4 +1,6 @@
 // Utility functions: the source's `utils`, with what the voices share of `engine/mod.rs`.
+#![tactic(auto)]
+
 ghost use Rattle.std.specs.Prelude.{◌≡◌, ◌≤◌, length};
 ghost use Rattle.utils.specs.Utils.{clamp_of, min_of, max_of, abs_of, one_pole, interpolate_wrap};
 

@@ -3,12 +3,8 @@ use mathlib.Core.Path.{refl}
 use lib.Ieee.{of_bits}
 use Rattle.words.specs.Binary32.{decimal}
 use Rattle.utils.specs.Units.{lut_pitch_ratio_high}
-use Rattle.utils.proofs.units.pitch_ratio_high.Statement.{statement}
-use Rattle.utils.proofs.units.pitch_ratio_high.Tie as tie
+use Rattle.utils.proofs.units.pitch_ratio_high.Goals as goal
 
-returns : tie.Need-returns
+pub returns : goal.returns
 unfolding lut_pitch_ratio_high of_bits decimal
 returns c = refl
-
-pub pitch-ratio-high-spec : {M : Type 1} → statement M
-pitch-ratio-high-spec = tie.close (tie.spec returns)
