@@ -53,10 +53,6 @@ map_there bank map i lent h l = pick lent.map_long
     pick (inl e) = absurd (eqb-false (length map) 0 (past_bank (eqb (length map) 0) i h l).0 e)
     pick (inr e) = e
 
--- four numbers that i is not
-pub none_of_four : (k i : ℕ) → k ≤ i → (i ≡ k → ⊥) → (i ≡ k + 1 → ⊥) → (i ≡ k + 2 → ⊥) → (i ≡ k + 3 → ⊥) → k + 4 ≤ i
-none_of_four k i h a b c d = omega arith
-
 -- ---- what a layer holds: nothing, or once the map or the bank
 
 -- something that each of the three has

@@ -1,5 +1,7 @@
 // The terrains: how many there are, and their height at a point.
 // Based on MIT-licensed code (c) 2021 by Emilie Gillet (emilie.o.gillet@gmail.com)
+#![tactic(auto)]
+
 ghost use Rattle.std.specs.Prelude.{◌≡◌, ◌+◌, ◌≤◌, min, length};
 ghost use Rattle.words.specs.Binary32.{◌⊖◌};
 ghost use Rattle.words.specs.Parts.{whole_part, whole_float};
