@@ -1,4 +1,6 @@
 // The state of a voice and its kept words, for every voice.
+#![tactic(auto)]
+
 ghost use Rattle.std.specs.Prelude.{◌≡◌, length};
 ghost use Rattle.voice.specs.Voice.{voice_of, kept_count, fresh_state, kept_words, wavetable_of, terrain_of, oscillator_of, state_of};
 
@@ -35,6 +37,7 @@ pub enum State {
 }
 
 // Which voice an instrument plays. A number that is no instrument's is refused before a voice is asked for.
+#[tactic(auto, unfolding(crate::specs::Voice::voice_of))]
 pub fn voice_of(instrument: u32) -> Voice
     ensures { result ≡ voice_of instrument }
 {

@@ -1,0 +1,16 @@
+-- `voice::oscillator_of` meets its contract.
+use Rattle.voice.specs.Voice.{oscillator_of}
+use Rattle.voice.proofs.oscillator_of.Goals as goal
+
+pub returns : goal.returns
+unfolding oscillator_of
+returns c =
+    rw (
+      c.of_word-7.ensures,
+      c.of_word-6.ensures,
+      c.of_word-5.ensures,
+      c.of_word-4.ensures,
+      c.of_word-3.ensures,
+      c.of_word-2.ensures,
+      c.of_word.ensures,
+    )
