@@ -1,4 +1,6 @@
 // The block of a row, by the voice that its state is of.
+#![tactic(auto)]
+
 ghost use Rattle.std.specs.Prelude.{◌≡◌, length};
 ghost use Rattle.utils.specs.Rendered.{Places, Renders};
 ghost use Rattle.voice.specs.Voice.{rendered, Lent, Tables};
