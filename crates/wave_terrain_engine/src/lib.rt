@@ -10,6 +10,8 @@
 // AUX signal: terrain height interpreted as phase distortion (sin(y+z)).
 //
 // Based on MIT-licensed code (c) 2021 by Emilie Gillet (emilie.o.gillet@gmail.com)
+#![tactic(auto)]
+
 ghost use Rattle.std.specs.Prelude.{◌≡◌, length};
 ghost use Rattle.utils.specs.Rendered.{Places, Renders};
 ghost use Rattle.terrain.specs.Layers.{Lent};
