@@ -1,4 +1,6 @@
 // What the calls refuse, by number and place.
+#![tactic(auto)]
+
 ghost use Rattle.std.specs.Prelude.{◌≡◌, ◌≤◌, ◌<◌};
 ghost use Rattle.utils.specs.Rendered.{most_frames};
 ghost use Rattle.score.specs.Rows.{most_rows};
