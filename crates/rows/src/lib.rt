@@ -1,4 +1,6 @@
 // Rows of a take: what a row begins with, what is kept of it, and where a run of rows ends. Nothing here goes by the voice.
+#![tactic(auto)]
+
 ghost use Rattle.std.specs.Prelude.{◌≡◌, ◌+◌, ◌*◌, ◌≤◌, ◌<◌, length};
 ghost use Rattle.lists.specs.Lists.{put, same};
 ghost use Rattle.utils.specs.Units.{a0_of};
@@ -38,6 +40,7 @@ pub fn nothing() -> Report
 }
 
 // What a row's words tell the voice.
+#[tactic(auto, unfolding(crate::specs::Rows::parameters_of))]
 pub fn parameters(rate: u32, row: [u32; ROW_WORDS]) -> EngineParameters
     ensures { result ≡ parameters_of rate row }
 {
