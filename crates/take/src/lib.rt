@@ -1,5 +1,7 @@
 // Whole rendering of a score, and edits, insertions and removals of its rows, over lent words: the calls, with their refusals. The lent words
 // may be longer than the score; `count` says how many rows it has.
+#![tactic(auto)]
+
 ghost use Rattle.std.specs.Prelude.{◌≡◌, ◌+◌, ◌*◌, ◌≤◌, ◌<◌, length};
 ghost use Rattle.lists.specs.Lists.{same};
 ghost use Rattle.utils.specs.Units.{a0_of};
