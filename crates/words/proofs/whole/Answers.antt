@@ -1,4 +1,4 @@
--- `words::whole` meets its contract: the equation by fields is the whole part (of-float).
+-- `words::whole` meets its contract: the equation by fields is the whole part (of_float).
 use mathlib.Core.Path.{sym, ◌∙◌}
 use denote.Floats.{passes}
 use Rattle.words.proofs.ByFields.{of_float}

@@ -1,4 +1,4 @@
--- `words::whole_i32` meets its contract: the equation by fields is the whole part to i32 (of-float).
+-- `words::whole_i32` meets its contract: the equation by fields is the whole part to i32 (of_float).
 use mathlib.Core.Path.{◌≡◌, sym, ◌∙◌}
 use mir.Syntax.{w32}
 use mir.Facts.{to_z-of_z}

@@ -1,4 +1,4 @@
--- `words::fields::small_whole` meets its contract: the word of such a float is E and T alone (small-whole).
+-- `words::fields::small_whole` meets its contract: the word of such a float is E and T alone (small_whole).
 use mathlib.Core.Path.{sym, subst}
 use mathlib.Core.Bool.{not}
 use native.Mathlib.Omega.{arith}
