@@ -1,4 +1,6 @@
 // Reading a text of rows: one pass tests it, and only the rows of a text that passes are stored.
+#![tactic(auto)]
+
 ghost use Rattle.std.specs.Prelude.{◌≡◌, true, false, ◌++◌, ◌*◌, ◌≤◌, ◌<◌, length, drop};
 ghost use Rattle.reader.specs.declared.ReadAnswer.TheVariants.{Read};
 ghost use Rattle.score.specs.Rows.{row_words};
