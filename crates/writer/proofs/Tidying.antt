@@ -11,7 +11,7 @@ use lib.ListN.{length, get_or, take, drop}
 use lib.Seq.{take_at, take-take, take_all}
 use Rattle.score.specs.declared.refusal.Refusal.{Refusal}
 use Rattle.score.specs.Rows.{row_words, most_rows, wrong_rows}
-use Rattle.text.specs.Text.{space, Line, lines_of, first_of, rest_of, text_of, field_of, no_capital}
+use Rattle.text.specs.Text.{Line, lines_of, first_of, rest_of, text_of, field_of, no_capital}
 use Rattle.names.specs.Sources.{holds_names, names_on, sources_by}
 use Rattle.values.specs.Lines.{rows_of}
 use Rattle.reader.specs.declared.ReadAnswer.TheVariants.{Read}
@@ -27,7 +27,7 @@ use Rattle.reader.proofs.Accepted as accepting
 use Rattle.reader.proofs.Storing.{counted}
 use Rattle.reader.proofs.Settling.{settle_stored}
 use Rattle.writer.specs.declared.WriteAnswer.TheVariants.{Written, Refused}
-use Rattle.writer.specs.Writing.{text_bytes, names, row_lines, score_text, write_refusal, outcome, write_of, Outcome}
+use Rattle.writer.specs.Writing.{text_bytes, names, row_lines, score_text, write_refusal, write_of, Outcome}
 use Rattle.writer.specs.Tidy.{rows_in, Tidied, Tidy, TidyWriter}
 use Rattle.writer.proofs.Lines.{text_long}
 use Rattle.writer.proofs.Refusing.{Writable, passes, writable, write_refused, write_done}

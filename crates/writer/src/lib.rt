@@ -1,4 +1,6 @@
 // Writing a score as a tidy text: the names in row order, lower-case digits.
+#![tactic(auto)]
+
 ghost use Rattle.std.specs.Prelude.{◌≡◌, [], ◌∷◌, ◌++◌, map, ◌*◌, ◌≤◌, ◌<◌, length};
 ghost use Rattle.score.specs.Rows.{row_words, most_rows};
 ghost use Rattle.text.specs.Text.{line_of, text_of, field_of};

@@ -1,0 +1,31 @@
+-- `put_rows` puts the lines of the rows one behind the other (Filled).
+use mathlib.Core.Path.{◌≡◌, sym, ap, ◌∙◌}
+use mathlib.Core.List.{List, ◌++◌, map}
+use Prim.Native.Nat.{ℕ, ◌+◌, ◌-◌, ◌*◌}
+use native.Mathlib.Omega.{arith}
+use Rattle.std.proofs.Common.{rules}
+use lib.ListN.{length, take, drop, length-drop}
+use Rattle.score.specs.Rows.{row_words}
+use Rattle.text.specs.Text.{line_of, field_of}
+use Rattle.lists.proofs.Filling.{fill_goes_on, fill_ends}
+use Rattle.writer.specs.Writing.{row_bytes}
+use Rattle.writer.proofs.Lines.{rows_from, rows_more, rows_none, rows_all, row_long}
+use Rattle.writer.proofs.put_rows.Goals as goal
+
+pub loop-k-preserved : goal.loop-k-preserved
+loop-k-preserved c =
+    let a = c.args in
+    let k = c.loop-k.k in
+    let put = c.put_line in
+    let span : k * row_words + row_words - k * row_words ≡ row_words = omega arith in
+    let line = put.ensures ∙ ap (λ (n : ℕ). line_of (map field_of (take n (drop (k * row_words) a.rows.now)))) span in
+    fill_goes_on row_bytes a.count (rows_from a.count a.rows.now) c.loop-k.text k (search rules) put.new.text
+    (ap length line ∙ row_long (drop (k * row_words) a.rows.now) (omega (arith, length-drop (k * row_words) a.rows.now)))
+    c.loop-k.invariant
+    (rows_more a.count a.rows.now k (search rules) ∙ ap (λ (x : List ℕ). x ++ rows_from a.count a.rows.now (k + 1)) (sym line))
+
+pub returns : goal.returns
+returns c =
+    let a = c.args in
+    fill_ends row_bytes a.count (rows_from a.count a.rows.now) _ _ c.loop-k-test.false (rows_none a.count a.rows.now) c.loop-k.invariant
+    ∙ rows_all a.count a.rows.now
