@@ -1,4 +1,6 @@
 // What the program reads: the score's text, the edits' text and the bank, and the first refusal of the three.
+#![tactic(auto)]
+
 ghost use Rattle.std.specs.Prelude.{◌≡◌, ◌*◌};
 ghost use Rattle.score.specs.Rows.{row_words};
 ghost use Rattle.reader.specs.Reading.{outcome, read_of, read_edits_of, edit_words};
