@@ -1,5 +1,7 @@
 // The source's `sine_oscillator.rs`: simple sine oscillator (wavetable), in module `sine` with its table, + fast sine oscillator (magic circle).
 // Based on MIT-licensed code (c) 2016 by Emilie Gillet (emilie.o.gillet@gmail.com)
+#![tactic(auto)]
+
 ghost use Rattle.std.specs.Prelude.{◌≡◌, ◌≤◌, ◌++◌, length, drop};
 ghost use Rattle.utils.specs.Frames.{state_after, each_of};
 ghost use Rattle.utils.specs.Rendered.{run_length};

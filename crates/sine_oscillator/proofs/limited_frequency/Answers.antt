@@ -1,0 +1,12 @@
+-- The held frequency, by its test.
+use lib.Ieee.{of_bits}
+use Rattle.words.specs.Binary32.{decimal}
+use Rattle.sine_oscillator.proofs.limited_frequency.Goals as goal
+
+pub returns-then-frequency : goal.returns-then-frequency
+unfolding of_bits decimal
+returns-then-frequency c = simp c.if-frequency.true
+
+pub returns-else-frequency : goal.returns-else-frequency
+unfolding of_bits decimal
+returns-else-frequency c = simp c.if-frequency.false
