@@ -1,8 +1,8 @@
 -- A row is made: its block is the voice's by the definitions' own arguments, and its words come back into the take as `put`.
-use mathlib.Core.Path.{◌≡◌, refl, sym, ap, ◌∙◌}
+use mathlib.Core.Path.{◌≡◌, sym, ap, ◌∙◌}
 use mathlib.Core.List.{List}
 use mathlib.Core.Bool.{Bool}
-use Prim.Native.Nat.{ℕ, zero, suc, ◌+◌, ◌-◌, ◌*◌, ◌≤◌}
+use Prim.Native.Nat.{ℕ, ◌+◌, ◌-◌, ◌*◌, ◌≤◌}
 use native.Mathlib.Omega.{arith}
 use lib.ListN.{take, drop}
 use Rattle.lists.specs.Lists.{put, same}
@@ -14,7 +14,7 @@ use Rattle.utils.specs.declared.engine.EngineParameters.{EngineParameters}
 use Rattle.voice.specs.declared.State.{State}
 use Rattle.voice.specs.Voice.{kept_count, voice_of, kept_words, state_of, rendered}
 use Rattle.score.specs.Rows.{most_rows, row_at}
-use Rattle.rows.specs.Rows.{Setup, Take, lent, fresh_start, kept_at, before_row, words_before, parameters_of, start_of, row_from, row_by}
+use Rattle.rows.specs.Rows.{Setup, Take, lent, fresh_start, kept_at, words_before, parameters_of, start_of, row_from, row_by}
 use Rattle.runs.specs.Inner.{Blocks, Room, Makes, RowDone}
 
 -- A block that the voice rendered, told the row's start and parameters, is the row's.

@@ -1,5 +1,7 @@
 // Runs of rows: a row made from the 13 words of the state before it, written into its place, and rows one after the other. Nothing here goes by
 // the voice: a row's block is a function of a state and the row.
+#![tactic(auto)]
+
 ghost use Rattle.std.specs.Prelude.{◌≡◌, ◌≤◌, ◌<◌};
 ghost use Rattle.voice.specs.Voice.{Lent, Tables};
 ghost use Rattle.rows.specs.Rows.{setup, lent, row_by, reported, run_of};
