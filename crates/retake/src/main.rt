@@ -1,4 +1,6 @@
 // The program `retake`, in the folder in which it is started.
-fn main() {
-    folder::run();
+#![tactic(auto)]
+
+fn main(rt: HostRuntime) {
+    folder::run(&rt);
 }
