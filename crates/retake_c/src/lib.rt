@@ -2,6 +2,8 @@
 // `first` and `second`: the row count and 0 (reader), the byte count and 0 (writer), the rows rendered and `held` (rendering, edit, insertion,
 // removal), the place and 0 (a refusal). Rendering, edit, insertion and removal also write the five counts of what was held, zeros on a refusal.
 // The score and its take stand at the start of the lent words; `count` says how many rows it has.
+#![tactic(auto)]
+
 ghost use Rattle.std.specs.Prelude.{◌≡◌, ◌∷◌, []};
 ghost use Rattle.score.specs.Numbers.{refused};
 ghost use Rattle.reader.specs.Reading.{read_of};
