@@ -74,7 +74,7 @@ moved lp s =
       f0_modulation = stepped s.f0_modulation;
     }
 
--- "tops: phase 127, x 7, y 7, z 6"; phaseTop is the bank's.
+-- "tops: phase 127, x 7, y 7, z 6"; phase_top is the bank's.
 abbrev pub x_top : ℕ
 x_top = 7
 

@@ -1,5 +1,5 @@
 -- Document 01, the head: IEEE 754's binary32, each operation rounded once to nearest, ties to even, and decimal literals too.
--- Names for the operations of `lib.Ieee` at this format, in the circles that mark a rounded operation.
+-- Names for the operations of `Rattle.std.specs.Float.Ieee` at this format, in the circles that mark a rounded operation.
 use Rattle.std.specs.Prelude.{ℕ, ◌^◌, false, pos, Float}
 use Rattle.std.specs.Float.{binary32}
 use Rattle.std.specs.Float.Ieee.{add, sub, mul, div, round, of_int}

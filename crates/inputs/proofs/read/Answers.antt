@@ -1,4 +1,4 @@
--- `inputs::read` meets its contract: both texts were read into words that were all 0 (texts-read).
+-- `inputs::read` meets its contract: both texts were read into words that were all 0 (texts_read).
 use Rattle.inputs.proofs.Texts.{texts_read}
 use Rattle.inputs.proofs.read.Goals as goal
 

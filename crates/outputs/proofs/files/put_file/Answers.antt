@@ -1,4 +1,4 @@
--- `outputs::files::put_file` meets its contract: the bytes behind the name are lent for those of the words (file-stands).
+-- `outputs::files::put_file` meets its contract: the bytes behind the name are lent for those of the words (file_stands).
 use native.Mathlib.Omega.{arith}
 use Rattle.outputs.proofs.Handing.{file_stands}
 use Rattle.outputs.proofs.files.put_file.Goals as goal
