@@ -62,19 +62,7 @@ pub extern "C" fn retake_render(
         (lent out.old aux.old kept.old) (render)) }
 {
     retake_c::retake_render(
-        instrument,
-        rate,
-        frames,
-        bank,
-        map,
-        rows,
-        count,
-        out,
-        aux,
-        kept,
-        first,
-        second,
-        counts,
+        instrument, rate, frames, bank, map, rows, count, out, aux, kept, first, second, counts,
     )
 }
 
@@ -107,25 +95,8 @@ pub extern "C" fn retake_edit(
         (lent out.old aux.old kept.old) (edit position (note ∷ timbre ∷ morph ∷ harmonics ∷ restart ∷ []))) }
 {
     retake_c::retake_edit(
-        instrument,
-        rate,
-        frames,
-        bank,
-        map,
-        rows,
-        count,
-        position,
-        note,
-        timbre,
-        morph,
-        harmonics,
-        restart,
-        out,
-        aux,
-        kept,
-        first,
-        second,
-        counts,
+        instrument, rate, frames, bank, map, rows, count, position, note, timbre, morph, harmonics,
+        restart, out, aux, kept, first, second, counts,
     )
 }
 
@@ -158,25 +129,8 @@ pub extern "C" fn retake_insert(
         (lent out.old aux.old kept.old) (insert position (note ∷ timbre ∷ morph ∷ harmonics ∷ restart ∷ []))) }
 {
     retake_c::retake_insert(
-        instrument,
-        rate,
-        frames,
-        bank,
-        map,
-        rows,
-        count,
-        position,
-        note,
-        timbre,
-        morph,
-        harmonics,
-        restart,
-        out,
-        aux,
-        kept,
-        first,
-        second,
-        counts,
+        instrument, rate, frames, bank, map, rows, count, position, note, timbre, morph, harmonics,
+        restart, out, aux, kept, first, second, counts,
     )
 }
 
@@ -204,19 +158,7 @@ pub extern "C" fn retake_remove(
         (lent out.old aux.old kept.old) (remove position)) }
 {
     retake_c::retake_remove(
-        instrument,
-        rate,
-        frames,
-        bank,
-        map,
-        rows,
-        count,
-        position,
-        out,
-        aux,
-        kept,
-        first,
-        second,
+        instrument, rate, frames, bank, map, rows, count, position, out, aux, kept, first, second,
         counts,
     )
 }
