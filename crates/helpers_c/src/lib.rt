@@ -1,4 +1,6 @@
 // The float helpers for C: their answers for one word after the other, to be compared with the Rust's over all words.
+#![tactic(auto)]
+
 ghost use Rattle.std.specs.Prelude.{◌≡◌, length};
 ghost use Rattle.utils.specs.Units.{lut_pitch_ratio_high, lut_pitch_ratio_low};
 ghost use Rattle.sine_oscillator.specs.Sine.{lut_sine};
