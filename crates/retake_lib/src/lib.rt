@@ -1,4 +1,6 @@
 // The program `retake` over lent bytes: what it prints, and which files it writes, by the bytes of the three files that it reads.
+#![tactic(auto)]
+
 ghost use Rattle.std.specs.Prelude.{take};
 ghost use Rattle.inputs.specs.Inputs.{most_text, bytes_of_bank};
 ghost use Rattle.retake_lib.specs.Program.{program};
