@@ -1,6 +1,8 @@
 // Calls the C functions by position, with arguments that tell them apart, and prints what they return, what they write to `first`, `second`
 // and `counts`, and every lent word and byte. A contract speaks of a parameter by its name, C binds it by its place: two parameters that change
 // places show here.
+#![tactic(auto)]
+
 ghost use Rattle.std.specs.Prelude.{◌≡◌, length};
 
 use trial::{say, say_number};
@@ -31,19 +33,19 @@ const OSCILLATOR: [u32; KEPT] = [
 ];
 
 // Writes a space and a word in decimal.
-fn say_word(w: u32) {
-    say_number(w as u64);
+fn say_word(rt: &impl Print, w: u32) {
+    say_number(rt, w as u64);
 }
 
 // Writes a line: a text, and each word with a space before it.
-fn say_words(text: &[u8], words: &[u32]) {
-    say(text);
+fn say_words(rt: &impl Print, text: &[u8], words: &[u32]) {
+    say(rt, text);
     let mut i = 0;
     while i < words.len() {
-        say_word(words[i]);
+        say_word(rt, words[i]);
         i += 1;
     }
-    say(b"\n");
+    say(rt, b"\n");
 }
 
 // A bank whose samples go up and down: 7919 i mod 32749.
@@ -58,56 +60,64 @@ fn fill_waves(bank: &mut [i16])
 }
 
 // What a call returned and wrote to its two results.
-fn say_values(call: &[u8], number: u32, first: u64, second: u64) {
-    say(call);
-    say_number(number as u64);
-    say_number(first);
-    say_number(second);
+fn say_values(rt: &impl Print, call: &[u8], number: u32, first: u64, second: u64) {
+    say(rt, call);
+    say_number(rt, number as u64);
+    say_number(rt, first);
+    say_number(rt, second);
 }
 
 // The same on a line.
-fn print_values(call: &[u8], number: u32, first: u64, second: u64) {
-    say_values(call, number, first, second);
-    say(b"\n");
+fn print_values(rt: &impl Print, call: &[u8], number: u32, first: u64, second: u64) {
+    say_values(rt, call, number, first, second);
+    say(rt, b"\n");
 }
 
 // The same with the five counts that a call wrote.
-fn print_report(call: &[u8], number: u32, first: u64, second: u64, counts: [u64; 5]) {
-    say_values(call, number, first, second);
-    say_number(counts[0]);
-    say_number(counts[1]);
-    say_number(counts[2]);
-    say_number(counts[3]);
-    say_number(counts[4]);
-    say(b"\n");
+fn print_report(
+    rt: &impl Print,
+    call: &[u8],
+    number: u32,
+    first: u64,
+    second: u64,
+    counts: [u64; 5],
+) {
+    say_values(rt, call, number, first, second);
+    say_number(rt, counts[0]);
+    say_number(rt, counts[1]);
+    say_number(rt, counts[2]);
+    say_number(rt, counts[3]);
+    say_number(rt, counts[4]);
+    say(rt, b"\n");
 }
 
 // Every word of a take.
-fn print_take(out: &[u32], aux: &[u32], kept: &[u32]) {
-    say_words(b"out", out);
-    say_words(b"aux", aux);
-    say_words(b"kept", kept);
+fn print_take(rt: &impl Print, out: &[u32], aux: &[u32], kept: &[u32]) {
+    say_words(rt, b"out", out);
+    say_words(rt, b"aux", aux);
+    say_words(rt, b"kept", kept);
 }
 
-fn read(text: &[u8], rows: &mut [u32]) {
+fn read(rt: &impl Print, text: &[u8], rows: &mut [u32]) {
     let mut first = UNWRITTEN;
     let mut second = UNWRITTEN;
     let number = retake_c::retake_read_score(text, rows, &mut first, &mut second);
-    print_values(b"read", number, first, second);
-    say_words(b"rows", rows);
+    print_values(rt, b"read", number, first, second);
+    say_words(rt, b"rows", rows);
 }
 
-fn write(rows: &[u32], count: u64, text: &mut [u8]) {
+fn write(rt: &impl Print, rows: &[u32], count: u64, text: &mut [u8]) {
     let mut first = UNWRITTEN;
     let mut second = UNWRITTEN;
     let number = retake_c::retake_write_score(rows, count, text, &mut first, &mut second);
-    print_values(b"write", number, first, second);
-    say(b"text\n");
-    say(text);
-    say(b"\n");
+    print_values(rt, b"write", number, first, second);
+    say(rt, b"text\n");
+    say(rt, text);
+    say(rt, b"\n");
 }
 
 fn render(
+    rt: &impl Print,
     instrument: u32,
     rate: u32,
     bank: &[i16],
@@ -136,11 +146,12 @@ fn render(
         &mut second,
         &mut counts,
     );
-    print_report(b"render", number, first, second, counts);
-    print_take(out, aux, kept);
+    print_report(rt, b"render", number, first, second, counts);
+    print_take(rt, out, aux, kept);
 }
 
 fn edit(
+    rt: &impl Print,
     instrument: u32,
     rate: u32,
     bank: &[i16],
@@ -177,12 +188,13 @@ fn edit(
         &mut second,
         &mut counts,
     );
-    print_report(b"edit", number, first, second, counts);
-    say_words(b"rows", rows);
-    print_take(out, aux, kept);
+    print_report(rt, b"edit", number, first, second, counts);
+    say_words(rt, b"rows", rows);
+    print_take(rt, out, aux, kept);
 }
 
 fn insert(
+    rt: &impl Print,
     instrument: u32,
     rate: u32,
     bank: &[i16],
@@ -219,12 +231,13 @@ fn insert(
         &mut second,
         &mut counts,
     );
-    print_report(b"insert", number, first, second, counts);
-    say_words(b"rows", rows);
-    print_take(out, aux, kept);
+    print_report(rt, b"insert", number, first, second, counts);
+    say_words(rt, b"rows", rows);
+    print_take(rt, out, aux, kept);
 }
 
 fn remove(
+    rt: &impl Print,
     instrument: u32,
     rate: u32,
     bank: &[i16],
@@ -255,13 +268,14 @@ fn remove(
         &mut second,
         &mut counts,
     );
-    print_report(b"remove", number, first, second, counts);
-    say_words(b"rows", rows);
-    print_take(out, aux, kept);
+    print_report(rt, b"remove", number, first, second, counts);
+    say_words(rt, b"rows", rows);
+    print_take(rt, out, aux, kept);
 }
 
 // The score of three rows rendered and edited: an accepted edit, one past the end, one outside a limit.
 fn edits(
+    rt: &impl Print,
     instrument: u32,
     rate: u32,
     bank: &[i16],
@@ -272,15 +286,22 @@ fn edits(
     aux: &mut [u32; 16],
     kept: &mut [u32; 52],
 ) {
-    render(instrument, rate, bank, map, rows, 3, out, aux, kept);
-    edit(instrument, rate, bank, map, rows, 3, 1, row, out, aux, kept);
-    edit(instrument, rate, bank, map, rows, 3, 5, row, out, aux, kept);
+    render(rt, instrument, rate, bank, map, rows, 3, out, aux, kept);
+    edit(
+        rt, instrument, rate, bank, map, rows, 3, 1, row, out, aux, kept,
+    );
+    edit(
+        rt, instrument, rate, bank, map, rows, 3, 5, row, out, aux, kept,
+    );
     let row = [row[0], row[1], row[2], 0x3f800001, row[4]];
-    edit(instrument, rate, bank, map, rows, 3, 2, row, out, aux, kept);
+    edit(
+        rt, instrument, rate, bank, map, rows, 3, 2, row, out, aux, kept,
+    );
 }
 
 // A fourth row put in and one taken out: an accepted insertion, and one with no room left; an accepted removal, and one past the end.
 fn splices(
+    rt: &impl Print,
     instrument: u32,
     rate: u32,
     bank: &[i16],
@@ -291,10 +312,14 @@ fn splices(
     kept: &mut [u32; 52],
 ) {
     let row = [0x42300000, 0x3e800000, 0x3f200000, 0x3f600000, 0];
-    insert(instrument, rate, bank, map, rows, 3, 1, row, out, aux, kept);
-    insert(instrument, rate, bank, map, rows, 4, 2, row, out, aux, kept);
-    remove(instrument, rate, bank, map, rows, 4, 0, out, aux, kept);
-    remove(instrument, rate, bank, map, rows, 3, 3, out, aux, kept);
+    insert(
+        rt, instrument, rate, bank, map, rows, 3, 1, row, out, aux, kept,
+    );
+    insert(
+        rt, instrument, rate, bank, map, rows, 4, 2, row, out, aux, kept,
+    );
+    remove(rt, instrument, rate, bank, map, rows, 4, 0, out, aux, kept);
+    remove(rt, instrument, rate, bank, map, rows, 3, 3, out, aux, kept);
 }
 
 // A state's words in the place of those kept after row 0.
@@ -308,6 +333,7 @@ fn keep(state: [u32; KEPT], kept: &mut [u32; 52]) {
 
 // An edit of row 1 from such a state: positions are held, of each kind another number.
 fn holds(
+    rt: &impl Print,
     instrument: u32,
     rate: u32,
     bank: &[i16],
@@ -320,11 +346,14 @@ fn holds(
 ) {
     let row = [0x42480000, 0x3f000000, 0x3f400000, 0x3f800000, 0];
     keep(state, kept);
-    edit(instrument, rate, bank, map, rows, 3, 1, row, out, aux, kept);
+    edit(
+        rt, instrument, rate, bank, map, rows, 3, 1, row, out, aux, kept,
+    );
 }
 
 // The score that was read, rendered and changed in words with room for a row more; last the edit that holds.
 fn play(
+    rt: &impl Print,
     instrument: u32,
     rate: u32,
     bank: &[i16],
@@ -338,20 +367,21 @@ fn play(
     let mut aux = [2; 16];
     let mut kept = [3; 52];
     edits(
-        instrument, rate, bank, map, row, &mut rows, &mut out, &mut aux, &mut kept,
+        rt, instrument, rate, bank, map, row, &mut rows, &mut out, &mut aux, &mut kept,
     );
     splices(
-        instrument, rate, bank, map, &mut rows, &mut out, &mut aux, &mut kept,
+        rt, instrument, rate, bank, map, &mut rows, &mut out, &mut aux, &mut kept,
     );
     holds(
-        instrument, rate, bank, map, state, &mut rows, &mut out, &mut aux, &mut kept,
+        rt, instrument, rate, bank, map, state, &mut rows, &mut out, &mut aux, &mut kept,
     );
 }
 
 // The row words after an accepted text and a refused one.
-fn read_texts() -> [u32; 20] {
+fn read_texts(rt: &impl Print) -> [u32; 20] {
     let mut rows = [0xffffffff; 20];
     read(
+        rt,
         b"harmonics restart note morph timbre
 3f19999a 00000000 42700000 3dcccccd 3e99999a
 3e19999a 00000001 42400000 3f4ccccd 3f59999a
@@ -360,6 +390,7 @@ fn read_texts() -> [u32; 20] {
         &mut rows,
     );
     read(
+        rt,
         b"note timbre morph harmonics restart
 42700000 00000000 3f000000 3f800000 00000000
 42700000 00000000 3f000000 3f800000 00000002
@@ -370,24 +401,24 @@ fn read_texts() -> [u32; 20] {
 }
 
 // A text that is longer than its score needs; a row outside its limits, and too short a text for it; and a text one byte too short.
-fn write_texts(rows: &[u32]) {
+fn write_texts(rt: &impl Print, rows: &[u32]) {
     let mut text = [b'.'; 175];
-    write(rows, 3, &mut text);
-    write(rows, 4, &mut text);
+    write(rt, rows, 3, &mut text);
+    write(rt, rows, 4, &mut text);
     let mut short = [b'.'; 170];
-    write(rows, 3, &mut short);
+    write(rt, rows, 3, &mut short);
 }
 
-fn main() {
-    let rows = read_texts();
-    write_texts(&rows);
+fn main(rt: HostRuntime) {
+    let rows = read_texts(&rt);
+    write_texts(&rt, &rows);
     let mut bank = [0i16; 25344];
     fill_waves(&mut bank);
     let map = [90u8; 4096];
     let row = [0x42600000, 0x3f400000, 0x3e800000, 0x3f000000, 1];
-    play(0, 48000, &bank, &map[..0], rows, row, WAVETABLE);
+    play(&rt, 0, 48000, &bank, &map[..0], rows, row, WAVETABLE);
     let row = [0x42500000, 0x3f100000, 0x3ec00000, 0x3f700000, 0];
-    play(2, 44100, &bank, &map, rows, row, TERRAIN);
+    play(&rt, 2, 44100, &bank, &map, rows, row, TERRAIN);
     let row = [0x42200000, 0x3e200000, 0x3f300000, 0x3ea00000, 0];
-    play(3, 96000, &bank, &map[..0], rows, row, OSCILLATOR);
+    play(&rt, 3, 96000, &bank, &map[..0], rows, row, OSCILLATOR);
 }
