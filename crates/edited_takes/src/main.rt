@@ -1,5 +1,7 @@
 // Lists of edits, insertions and removals on every instrument, and what the calls refuse. A line for each call: its kind, what it answered, and
 // which of the lent words (rows, out, aux, kept) are as they should be.
+#![tactic(auto)]
+
 ghost use Rattle.std.specs.Prelude.{◌≤◌, ◌<◌};
 
 use lists::same_words;
@@ -56,35 +58,35 @@ fn answer(
 }
 
 // Writes the name of a kind.
-fn say_kind(kind: u32) {
+fn say_kind(rt: &impl Print, kind: u32) {
     if kind == EDIT {
-        say(b"edit");
+        say(rt, b"edit");
     } else if kind == INSERT {
-        say(b"insert");
+        say(rt, b"insert");
     } else if kind == REMOVE {
-        say(b"remove");
+        say(rt, b"remove");
     } else {
-        say(b"render");
+        say(rt, b"render");
     }
 }
 
 // Writes a call's kind and what it answered.
-fn say_answer(kind: u32, answer: Answer) {
-    say_kind(kind);
+fn say_answer(rt: &impl Print, kind: u32, answer: Answer) {
+    say_kind(rt, kind);
     match answer {
         Answer::Done(report) => {
-            say_two(b" done", report.rows as u64, report.holds.held as u64);
+            say_two(rt, b" done", report.rows as u64, report.holds.held as u64);
         }
         Answer::Refused(refusal) => {
-            say_two(b" refused", refusal.number as u64, refusal.place as u64);
+            say_two(rt, b" refused", refusal.number as u64, refusal.place as u64);
         }
     }
 }
 
 // Writes a text where something is so.
-fn say_if(so: bool, text: &[u8]) {
+fn say_if(rt: &impl Print, so: bool, text: &[u8]) {
     if so {
-        say(text);
+        say(rt, text);
     }
 }
 
@@ -347,6 +349,7 @@ fn copy(out: &Samples, aux: &Samples, kept: &States) -> Take {
 
 // A call and its line: what it answered, and which of the lent words are as they should be. Gives the row count after it.
 fn turn(
+    rt: &impl Print,
     settings: Settings,
     bank: &[i16],
     map: &[u8],
@@ -364,12 +367,12 @@ fn turn(
     let score = rows_after(call, old_rows, count);
     let fresh = fresh(settings, bank, map, score, after);
     let n = fresh_rows(answer, after);
-    say_answer(call.kind, answer);
-    say_if(joined(rows, 5, n, &score, &old_rows), b" rows");
-    say_if(joined(out, FRAMES, n, &fresh.out, &old.out), b" out");
-    say_if(joined(aux, FRAMES, n, &fresh.aux, &old.aux), b" aux");
-    say_if(joined(kept, KEPT, n, &fresh.kept, &old.kept), b" kept");
-    say(b"\n");
+    say_answer(rt, call.kind, answer);
+    say_if(rt, joined(rows, 5, n, &score, &old_rows), b" rows");
+    say_if(rt, joined(out, FRAMES, n, &fresh.out, &old.out), b" out");
+    say_if(rt, joined(aux, FRAMES, n, &fresh.aux, &old.aux), b" aux");
+    say_if(rt, joined(kept, KEPT, n, &fresh.kept, &old.kept), b" kept");
+    say(rt, b"\n");
     after
 }
 
@@ -384,7 +387,14 @@ fn call_of(line: [u32; 7]) -> Call {
 }
 
 // The calls of a table, on the score's first `count` rows.
-fn list(settings: Settings, bank: &[i16], map: &[u8], count: usize, table: &[[u32; 7]]) {
+fn list(
+    rt: &impl Print,
+    settings: Settings,
+    bank: &[i16],
+    map: &[u8],
+    count: usize,
+    table: &[[u32; 7]],
+) {
     let mut rows = score_words();
     let mut out = [JUNK; ROOM * FRAMES];
     let mut aux = [JUNK; ROOM * FRAMES];
@@ -394,6 +404,7 @@ fn list(settings: Settings, bank: &[i16], map: &[u8], count: usize, table: &[[u3
     while i < table.len() {
         let line = table[i];
         n = turn(
+            rt,
             settings,
             bank,
             map,
@@ -409,17 +420,17 @@ fn list(settings: Settings, bank: &[i16], map: &[u8], count: usize, table: &[[u3
 }
 
 // The lists on an instrument.
-fn play(instrument: u32, bank: &[i16], map: &[u8]) {
-    say(b"instrument");
-    say_number(instrument as u64);
-    say(b"\n");
+fn play(rt: &impl Print, instrument: u32, bank: &[i16], map: &[u8]) {
+    say(rt, b"instrument");
+    say_number(rt, instrument as u64);
+    say(rt, b"\n");
     let settings = Settings {
         instrument,
         rate: RATE,
         frames: FRAMES,
     };
-    list(settings, bank, map, 8, &LONG);
-    list(settings, bank, map, 2, &SHORT);
+    list(rt, settings, bank, map, 8, &LONG);
+    list(rt, settings, bank, map, 2, &SHORT);
 }
 
 // ---- Refusals
@@ -520,7 +531,7 @@ fn handed(
 }
 
 // A call and its line: what it answered, and which of the lent words are as they were.
-fn attempt(kind: u32, line: [u32; 11], bank: &[i16], map: &[u8]) {
+fn attempt(rt: &impl Print, kind: u32, line: [u32; 11], bank: &[i16], map: &[u8]) {
     let mut rows = [0u32; 20485];
     rows[6] = 0x3f800001;
     let old_rows = rows;
@@ -530,42 +541,42 @@ fn attempt(kind: u32, line: [u32; 11], bank: &[i16], map: &[u8]) {
     let answer = handed(
         kind, line, bank, map, &mut rows, &mut out, &mut aux, &mut kept,
     );
-    say_answer(kind, answer);
-    say_if(same_words(&rows, &old_rows), b" rows");
-    say_if(same_words(&out, &[JUNK; 24]), b" out");
-    say_if(same_words(&aux, &[JUNK; 24]), b" aux");
-    say_if(same_words(&kept, &[JUNK; 52]), b" kept");
-    say(b"\n");
+    say_answer(rt, kind, answer);
+    say_if(rt, same_words(&rows, &old_rows), b" rows");
+    say_if(rt, same_words(&out, &[JUNK; 24]), b" out");
+    say_if(rt, same_words(&aux, &[JUNK; 24]), b" aux");
+    say_if(rt, same_words(&kept, &[JUNK; 52]), b" kept");
+    say(rt, b"\n");
 }
 
 // The four calls, with each line of a table.
-fn attempt_all(table: &[[u32; 11]], bank: &[i16], map: &[u8]) {
+fn attempt_all(rt: &impl Print, table: &[[u32; 11]], bank: &[i16], map: &[u8]) {
     let mut i = 0;
     while i < table.len() {
         let line = table[i];
-        attempt(RENDER, line, bank, map);
-        attempt(EDIT, line, bank, map);
-        attempt(INSERT, line, bank, map);
-        attempt(REMOVE, line, bank, map);
+        attempt(rt, RENDER, line, bank, map);
+        attempt(rt, EDIT, line, bank, map);
+        attempt(rt, INSERT, line, bank, map);
+        attempt(rt, REMOVE, line, bank, map);
         i += 1;
     }
 }
 
 // All lines, with a bank and a map that have an element too many.
-fn attempts() {
+fn attempts(rt: &impl Print) {
     let bank = [0i16; 25345];
     let map = [0u8; 4097];
-    attempt_all(&LINES, &bank, &map);
+    attempt_all(rt, &LINES, &bank, &map);
 }
 
-fn main() {
+fn main(rt: HostRuntime) {
     let mut bank = [0i16; 25344];
     let mut map = [0u8; 4096];
     fill_tables(1, &mut bank, &mut map);
     let none = [0u8; 0];
-    play(0, &bank, &none);
-    play(1, &bank, &none);
-    play(2, &bank, &map);
-    play(3, &bank, &none);
-    attempts();
+    play(&rt, 0, &bank, &none);
+    play(&rt, 1, &bank, &none);
+    play(&rt, 2, &bank, &map);
+    play(&rt, 3, &bank, &none);
+    attempts(&rt);
 }
