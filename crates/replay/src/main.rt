@@ -4,12 +4,13 @@
 // The input has words, low byte first: the number of scores, and for each score instrument, rate, frames, seed, rows n and calls m; n rows of
 // five words; m calls of seven words: the kind (0 edit, 1 insertion, 2 removal), the position, and the row's five words (zeros for a removal).
 // The bank and the map of a score come from its seed. What is lent has room for more rows than the score has.
+#![tactic(auto)]
+
 ghost use Rattle.std.specs.Prelude.{◌≡◌, ◌+◌, ◌≤◌, ◌<◌};
 
-use libc::STDIN_FILENO;
 use rows::Settings;
 use take::Answer;
-use trial::{fill_tables, say, say_number, say_two, sum_of_words};
+use trial::{fill_tables, read_input, say, say_number, say_two, sum_of_words};
 use utils::holds::Holds;
 
 const BANK: usize = 25344;
@@ -89,24 +90,24 @@ fn row_words(file: &[u8], at: usize, n: usize) -> [u32; MOST_ROWS * 5]
 }
 
 // What was held, and of which kinds.
-fn print_holds(holds: Holds) {
-    say_number(holds.held as u64);
-    say_number(holds.phase as u64);
-    say_number(holds.wave_position as u64);
-    say_number(holds.level as u64);
-    say_number(holds.map as u64);
-    say_number(holds.bank as u64);
+fn print_holds(rt: &impl Print, holds: Holds) {
+    say_number(rt, holds.held as u64);
+    say_number(rt, holds.phase as u64);
+    say_number(rt, holds.wave_position as u64);
+    say_number(rt, holds.level as u64);
+    say_number(rt, holds.map as u64);
+    say_number(rt, holds.bank as u64);
 }
 
 // The numbers of a call's success, or the two of its refusal.
-fn print_answer(answer: Answer) {
+fn print_answer(rt: &impl Print, answer: Answer) {
     match answer {
         Answer::Done(report) => {
-            say_number(report.rows as u64);
-            print_holds(report.holds);
+            say_number(rt, report.rows as u64);
+            print_holds(rt, report.holds);
         }
         Answer::Refused(refusal) => {
-            say_two(b" refused", refusal.number as u64, refusal.place as u64);
+            say_two(rt, b" refused", refusal.number as u64, refusal.place as u64);
         }
     }
 }
@@ -127,14 +128,14 @@ fn sample_count(rows: usize, frames: usize) -> usize
 }
 
 // What the take of a number of rows comes to.
-fn print_take(count: usize, frames: usize, out: &[u32], aux: &[u32], kept: &[u32])
+fn print_take(rt: &impl Print, count: usize, frames: usize, out: &[u32], aux: &[u32], kept: &[u32])
     requires { (count ≤ 64) × (frames ≤ 128) }
 {
     let samples = sample_count(count, frames);
-    say_number(sum_of_first(out, samples));
-    say_number(sum_of_first(aux, samples));
-    say_number(sum_of_first(kept, count * 13));
-    say(b"\n");
+    say_number(rt, sum_of_first(out, samples));
+    say_number(rt, sum_of_first(aux, samples));
+    say_number(rt, sum_of_first(kept, count * 13));
+    say(rt, b"\n");
 }
 
 // A score's settings.
@@ -188,15 +189,15 @@ fn answer_to(
 }
 
 // A call's name and position.
-fn print_call(call: Call) {
+fn print_call(rt: &impl Print, call: Call) {
     if call.kind == EDIT {
-        say(b"edit");
+        say(rt, b"edit");
     } else if call.kind == INSERTION {
-        say(b"insert");
+        say(rt, b"insert");
     } else {
-        say(b"remove");
+        say(rt, b"remove");
     }
-    say_number(call.position as u64);
+    say_number(rt, call.position as u64);
 }
 
 // The row count after a call on a score of `count` rows. There is room for 64.
@@ -222,6 +223,7 @@ fn count_after(call: Call, count: usize, answer: Answer) -> usize
 
 // The call that stands at byte `at`, on a score that has `count` rows by then, and its line. Gives the row count after it.
 fn call_one(
+    rt: &impl Print,
     file: &[u8],
     s: Score,
     at: usize,
@@ -238,14 +240,15 @@ fn call_one(
 {
     let call = call_at(file, at);
     let answer = answer_to(settings(s), bank, map, call, rows, count, out, aux, kept);
-    print_call(call);
-    print_answer(answer);
-    say(b"\n");
+    print_call(rt, call);
+    print_answer(rt, answer);
+    say(rt, b"\n");
     count_after(call, count, answer)
 }
 
 // The calls of a score that was rendered, which stand at byte `from`. Gives the row count after them.
 fn call_all(
+    rt: &impl Print,
     file: &[u8],
     s: Score,
     from: usize,
@@ -263,6 +266,7 @@ fn call_all(
     let mut i = 0;
     while i < s.calls {
         count = call_one(
+            rt,
             file,
             s,
             from + i * 28,
@@ -304,6 +308,7 @@ fn map_length(instrument: u32) -> usize
 
 // Renders a score and prints its line.
 fn render_one(
+    rt: &impl Print,
     s: Score,
     bank: &[i16],
     map: &[u8],
@@ -315,23 +320,24 @@ fn render_one(
     requires { (s.rows ≤ 64) × (s.frames ≤ 128) }
 {
     let answer = take::render(settings(s), bank, map, rows, s.rows, out, aux, kept);
-    say(b"render");
-    print_answer(answer);
-    print_take(s.rows, s.frames, out, aux, kept);
+    say(rt, b"render");
+    print_answer(rt, answer);
+    print_take(rt, s.rows, s.frames, out, aux, kept);
 }
 
 // The line of a take after its score's calls, where there were any. It has `count` rows by then.
-fn print_changed(s: Score, count: usize, out: &[u32], aux: &[u32], kept: &[u32])
+fn print_changed(rt: &impl Print, s: Score, count: usize, out: &[u32], aux: &[u32], kept: &[u32])
     requires { (count ≤ 64) × (s.frames ≤ 128) }
 {
     if s.calls > 0 {
-        say(b"take");
-        print_take(count, s.frames, out, aux, kept);
+        say(rt, b"take");
+        print_take(rt, count, s.frames, out, aux, kept);
     }
 }
 
 // Renders a score, in lent words, and does its calls.
 fn perform(
+    rt: &impl Print,
     file: &[u8],
     s: Score,
     bank: &[i16],
@@ -344,13 +350,13 @@ fn perform(
     requires { (s.at < 800000) × ((s.rows ≤ 64) × ((s.frames ≤ 128) × (s.calls ≤ 8))) }
 {
     let from = s.at + s.rows * 20;
-    render_one(s, bank, map, rows, out, aux, kept);
-    let count = call_all(file, s, from, bank, map, rows, out, aux, kept);
-    print_changed(s, count, out, aux, kept);
+    render_one(rt, s, bank, map, rows, out, aux, kept);
+    let count = call_all(rt, file, s, from, bank, map, rows, out, aux, kept);
+    print_changed(rt, s, count, out, aux, kept);
 }
 
 // Plays a score of at most 64 rows, 128 frames and 8 calls, with the bank and the map of its seed.
-fn play(file: &[u8], s: Score)
+fn play(rt: &impl Print, file: &[u8], s: Score)
     requires { (s.at < 800000) × ((s.rows ≤ 64) × ((s.frames ≤ 128) × (s.calls ≤ 8))) }
 {
     let maps = map_length(s.instrument);
@@ -362,6 +368,7 @@ fn play(file: &[u8], s: Score)
     let mut aux = [JUNK; MOST_SAMPLES];
     let mut kept = [JUNK; MOST_ROWS * 13];
     perform(
+        rt,
         file,
         s,
         &bank,
@@ -374,7 +381,7 @@ fn play(file: &[u8], s: Score)
 }
 
 // Plays the score at byte `at`. Where the next one stands, or past the file where there is none or this one is too large.
-fn play_at(file: &[u8], at: usize) -> usize {
+fn play_at(rt: &impl Print, file: &[u8], at: usize) -> usize {
     if at >= MOST_BYTES {
         return MOST_BYTES;
     }
@@ -388,23 +395,23 @@ fn play_at(file: &[u8], at: usize) -> usize {
     if s.calls > MOST_CALLS {
         return MOST_BYTES;
     }
-    play(file, s);
+    play(rt, file, s);
     s.at + s.rows * 20 + s.calls * 28
 }
 
 // Plays each score of the file, in order.
-fn play_all(file: &[u8]) {
+fn play_all(rt: &impl Print, file: &[u8]) {
     let count = word(file, 0);
     let mut at = 4;
     let mut i = 0;
     while i < count {
-        at = play_at(file, at);
+        at = play_at(rt, file, at);
         i += 1;
     }
 }
 
-fn main() {
+fn main(rt: HostRuntime) {
     let mut buffer = [0u8; MOST_BYTES];
-    let got = io::read_full(STDIN_FILENO, &mut buffer);
-    play_all(&buffer[..got]);
+    let got = read_input(&rt, &mut buffer);
+    play_all(&rt, &buffer[..got]);
 }

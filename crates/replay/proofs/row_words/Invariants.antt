@@ -1,0 +1,10 @@
+-- Each word has a place among the row words.
+use Prim.Native.Nat.{◌-◌, ◌≤◌}
+use Rattle.replay.proofs.row_words.Given as goal
+
+abbrev pub invariant-loop-i : goal.invariant-loop-i
+invariant-loop-i l =
+    l.i ≤ l.n
+
+abbrev pub decreases-loop-i : goal.decreases-loop-i
+decreases-loop-i l = l.n - l.i
