@@ -4,15 +4,16 @@
 // The cases, in their order: document 01's example; no edits; refused edits among others; names in another order; rows that hold; 128 rows and
 // 32 edits; the score refused by 10 (three ways), 6, 11 (two), 9, 12, 11, 10 and 12 for its length; the edits by 10 (three), 11, 12, 11, 12
 // for their length; the bank (three); and which of two or three refusals comes first.
+#![tactic(auto)]
+
 ghost use Rattle.std.specs.Prelude.{◌+◌, ◌≤◌, ◌<◌, length};
 ghost use Rattle.inputs.specs.Inputs.{bytes_of_bank};
 ghost use Rattle.outputs.specs.Files.{Within};
 
 use inputs::BANK_BYTES;
-use libc::STDIN_FILENO;
 use outputs::files::{Files, Place};
 use retake_lib::{BANK_ROOM, FILE_ROOM, PRINTED_ROOM};
-use trial::{after, fill_bytes, say, say_number, sum_of, text_end};
+use trial::{after, fill_bytes, read_input, say, say_number, sum_of, text_end};
 
 const INPUT_ROOM: usize = 65536;
 
@@ -33,7 +34,7 @@ fn bank_length(how: u8) -> usize
 }
 
 // The files' length and sums.
-fn show_placed(first: &[u8], place: Place, second: &[u8], other: Place)
+fn show_placed(rt: &impl Print, first: &[u8], place: Place, second: &[u8], other: Place)
     requires within { Within place first.now }
     requires within_2 { Within other second.now }
 {
@@ -41,37 +42,43 @@ fn show_placed(first: &[u8], place: Place, second: &[u8], other: Place)
     let end = place.end;
     let from = other.name;
     let to = other.end;
-    say(b"files");
-    say_number((end - start) as u64);
-    say_number(sum_of(&first[start..end]));
-    say_number(sum_of(&second[from..to]));
-    say(b"\n");
+    say(rt, b"files");
+    say_number(rt, (end - start) as u64);
+    say_number(rt, sum_of(&first[start..end]));
+    say_number(rt, sum_of(&second[from..to]));
+    say(rt, b"\n");
 }
 
-fn show_files(first: &[u8; FILE_ROOM], place: Place, second: &[u8; FILE_ROOM], other: Place)
+fn show_files(
+    rt: &impl Print,
+    first: &[u8; FILE_ROOM],
+    place: Place,
+    second: &[u8; FILE_ROOM],
+    other: Place,
+)
     requires within { Within place first.now }
     requires within_2 { Within other second.now }
 {
-    show_placed(first, place, second, other);
+    show_placed(rt, first, place, second, other);
 }
 
-fn run_case(score: &[u8], edits: &[u8], bank: &[u8]) {
+fn run_case(rt: &impl Print, score: &[u8], edits: &[u8], bank: &[u8]) {
     let mut printed = [0u8; PRINTED_ROOM];
     let mut first = [0u8; FILE_ROOM];
     let mut second = [0u8; FILE_ROOM];
     let r = retake_lib::run(score, edits, bank, &mut printed, &mut first, &mut second);
     let end = r.printed;
     let files = r.files;
-    say(&printed[..end]);
+    say(rt, &printed[..end]);
     match files {
         Files::Nothing => {}
-        Files::Both(place, other) => show_files(&first, place, &second, other),
+        Files::Both(place, other) => show_files(rt, &first, place, &second, other),
     }
-    say(b"\n");
+    say(rt, b"\n");
 }
 
 // Runs the case that starts at `from`; where the next one starts.
-fn run_at(input: &[u8], bank: &[u8], from: usize) -> usize
+fn run_at(rt: &impl Print, input: &[u8], bank: &[u8], from: usize) -> usize
     requires from_in_bounds { from < length input.now }
     requires bank_bytes_in_bounds { bytes_of_bank < length bank.now }
     ensures { (from < result) × (result ≤ length input.now) }
@@ -86,23 +93,23 @@ fn run_at(input: &[u8], bank: &[u8], from: usize) -> usize
         return end;
     }
     let b = bank_length(input[end]);
-    run_case(&input[from..middle], &input[second..end], &bank[..b]);
+    run_case(rt, &input[from..middle], &input[second..end], &bank[..b]);
     after(input, end)
 }
 
-fn run_all(input: &[u8], bank: &[u8])
+fn run_all(rt: &impl Print, input: &[u8], bank: &[u8])
     requires { bytes_of_bank < length bank.now }
 {
     let mut from = 0;
     while from < input.len() {
-        from = run_at(input, bank, from);
+        from = run_at(rt, input, bank, from);
     }
 }
 
-fn main() {
+fn main(rt: HostRuntime) {
     let mut input = [0u8; INPUT_ROOM];
     let mut bank = [0u8; BANK_ROOM];
-    let size = io::read_full(STDIN_FILENO, &mut input);
+    let size = read_input(&rt, &mut input);
     fill_bytes(1, &mut bank);
-    run_all(&input[..size], &bank);
+    run_all(&rt, &input[..size], &bank);
 }
