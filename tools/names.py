@@ -6,7 +6,7 @@ usage: python3 tools/names.py     at the top of the repository
 Words are in snake case: what specs/ and proofs/ declare in camel case or with dashes (`waveAt`, `goes-on`) is respelled (`wave_at`,
 `goes_on`) wherever it stands: in .antt files, in clauses and ghost imports of .rt files, in must-fail edits, and between backticks in
 comments and in documents. Names of the library, of functions, types, modules, goals and files keep their spelling.
-A name that would fall together with a field, a parameter, another definition or a word of the library gets the ending `_of` or `_lem`, as FALLS says.
+A name that would fall together with another gets the spelling that FALLS or FALLS_IN says. It stops where it meets one that they and LOOKED_AT lack.
 """
 import collections
 import glob
@@ -47,6 +47,28 @@ FALLS_IN = {
     "crates/score/proofs/limits/row_within/Proof.antt": {"row_words": "row_words_lem"},
     "crates/terrain/proofs/Layers.antt": {"of_none": "none_has", "of_map": "map_has", "of-bank": "bank_has"},
     "crates/wave_terrain_engine/proofs/Blocks.antt": {"holds_at": "holds_at_lem"},
+}
+# These coincide with a field, a local, a function or a name of another crate, and were looked at: no text sees both.
+LOOKED_AT = {
+    "each_within",
+    "each_word",
+    "f_pi",
+    "fresh_start",
+    "held_phases",
+    "held_place",
+    "held_waveforms",
+    "holds_at",
+    "in_order",
+    "interpolate_integrated_wave",
+    "interpolate_wave",
+    "interpolate_wave_hermite",
+    "is_digit",
+    "kept_room",
+    "of_bank",
+    "of_map",
+    "row_within",
+    "row_words",
+    "x_offset",
 }
 
 TOKEN = re.compile(r"[A-Za-z0-9_◌'ℕℤκΣλ²₀-₉-]+")
@@ -193,9 +215,10 @@ def check(own, to):
             bad.append(f"{sorted(back[b])} -> {b}: a word of the library")
         elif b in bound:
             bad.append(f"{sorted(back[b])} -> {b}: stands in .antt")
+    bad = [line for line in bad if re.search(r"-> (\w+)", line).group(1) not in LOOKED_AT]
     for line in bad:
         print("falls together: " + line, file=sys.stderr)
-    if bad and "--anyway" not in sys.argv:
+    if bad:
         raise SystemExit(1)
 
 
