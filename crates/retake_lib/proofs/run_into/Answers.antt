@@ -1,4 +1,4 @@
--- `retake_lib::run_into` meets its contract: the program goes by what was read (program-is), to a refusal or to what is played.
+-- `retake_lib::run_into` meets its contract: the program goes by what was read (program_is), to a refusal or to what is played.
 use mathlib.Core.Path.{sym}
 use Rattle.inputs.proofs.Texts.{full_bank, given_within}
 use Rattle.retake_lib.specs.Program.{output_of}

@@ -1,4 +1,4 @@
--- `retake_lib::playing::edit` meets its contract: the six words are those of edit k (edit-done).
+-- `retake_lib::playing::edit` meets its contract: the six words are those of edit k (edit_done).
 use native.Mathlib.Omega.{arith}
 use Prim.Native.Nat.{◌*◌}
 use Rattle.reader.specs.Reading.{edit_words}

@@ -1,4 +1,4 @@
--- `retake_lib::playing::play_rows` meets its contract: the parts that are lent are a take of n rows, all 0 (part-of-zeros).
+-- `retake_lib::playing::play_rows` meets its contract: the parts that are lent are a take of n rows, all 0 (part_of_zeros).
 use lib.Seq.{length-take-le}
 use mathlib.Core.Path.{sym}
 use native.Mathlib.Omega.{arith}

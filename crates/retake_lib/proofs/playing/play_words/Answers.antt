@@ -1,4 +1,4 @@
--- `retake_lib::playing::play_words` meets its contract: the rendering, the heading, the edits and the files put together (played-is).
+-- `retake_lib::playing::play_words` meets its contract: the rendering, the heading, the edits and the files put together (played_is).
 use native.Mathlib.Omega.{arith}
 use Rattle.retake_lib.proofs.Outputs.{played_is}
 use Rattle.retake_lib.proofs.playing.play_words.Goals as goal
