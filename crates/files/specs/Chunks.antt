@@ -1,5 +1,5 @@
 -- Document 01, "The program `retake`": files are read "4 KiB at a time".
-use Rattle.std.specs.Prelude.{ℕ, ◌+◌, ◌≤◌, ◌≡◌, List, length, take}
+use Rattle.std.specs.Prelude.{ℕ, ◌+◌, ◌≤◌, List, length}
 
 -- "4 KiB"
 abbrev pub chunk : ℕ
@@ -15,7 +15,3 @@ pub record ChunkEnd (at len end : ℕ) : Type 0 where
 pub record CameIn (bytes : List ℕ) (at got : ℕ) : Type 0 where
   pub within : at + got ≤ length bytes
   pub small : got ≤ chunk
-
--- So many bytes lie within the lent ones, from the first on.
-abbrev pub IsPrefixLen : ℕ → List ℕ → Type 0
-IsPrefixLen n bytes = (n ≤ length bytes) × (n ≡ length (take n bytes))

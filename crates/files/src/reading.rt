@@ -1,6 +1,7 @@
 // Reading a file into lent bytes, a chunk at a time.
 ghost use Rattle.std.specs.Prelude.{◌≤◌, length};
-ghost use Rattle.files.specs.Chunks.{ChunkEnd, CameIn, IsPrefixLen};
+ghost use Rattle.std.specs.Counts.{IsPrefixLen};
+ghost use Rattle.files.specs.Chunks.{ChunkEnd, CameIn};
 
 use std::fs;
 use std::io::Read;

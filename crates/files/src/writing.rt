@@ -1,6 +1,6 @@
 // Writing a file whole or not at all: a new file beside it is written first, and then takes its place. Where that fails, a line on
 // standard error says so, the new file is removed, and the old one is as it was.
-ghost use Rattle.files.specs.Chunks.{IsPrefixLen};
+ghost use Rattle.std.specs.Counts.{IsPrefixLen};
 
 use formats::put_text;
 use std::fs::{File, OpenFile};
