@@ -72,7 +72,6 @@ LOOKED_AT = {
 }
 
 TOKEN = re.compile(r"[A-Za-z0-9_◌'ℕℤκΣλ²₀-₉-]+")
-OWN_PATH = re.compile(r"^\s*(?:pub )?(?:ghost )?use (?:Rattle\.(\w+)|([\w.]+))")
 
 
 def snake(name):
@@ -89,7 +88,7 @@ def turnable(name):
 
 def declared(text):
     """The names that a file of specs/ or proofs/ declares: definitions, lemmas, fields and constructors."""
-    found, in_record = set(), False
+    found = set()
     for line in text.split("\n"):
         if line.startswith(("--", "use ", "pub use", "mod ", "pub mod", "unfolding", "infix")):
             continue
@@ -114,7 +113,7 @@ def of_library(text):
     names = set()
     for m in re.finditer(r"^\s*(?:pub )?(?:ghost )?use ([\w.]+)\.\{([^}]*)\}", text, re.M):
         own = re.match(r"Rattle\.(\w+)\.(specs|proofs)\.(?!declared)", m.group(1))
-        if own and own.group(1) in CRATES and not m.group(1).split(".")[2:3] == ["declared"]:
+        if own and own.group(1) in CRATES:
             continue
         for n in m.group(2).split(","):
             names.update(w.strip() for w in re.split(r"\bas\b", n))
