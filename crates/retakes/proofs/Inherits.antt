@@ -17,7 +17,7 @@ use Rattle.score.specs.Limits.{row_within, first_bad, bad_refusal, limit_refusal
 use Rattle.score.specs.Numbers.{refusal, accepted, limit_number}
 use Rattle.rows.specs.Rows.{Setup, Take, before_row}
 use Rattle.refusals.specs.Calls.{Call, render, count_after, rows_after, position}
-use Rattle.retakes.specs.Retakes.{Reel, refusal_in, next, after, Five, Fives, came, lowest_stop, words_at, Unchanging, Inherits, Inherited}
+use Rattle.retakes.specs.Retakes.{Reel, refusal_in, next, after, Five, Fives, came, words_at, Unchanging, Inherits, Inherited}
 use Rattle.retakes.proofs.Doing.{Does, next_refused, is_accepted, unchanging_or_not, doing, moves, after_is, side, others, next_unchanging}
 use Rattle.retakes.proofs.Retakes.{accepted_is, five, unchanged_not, all_rows}
 

@@ -17,7 +17,6 @@ use Rattle.utils.specs.declared.holds.Holds.{Holds}
 use Rattle.score.specs.Rows.{row_words, word_for, restart, row_at}
 use Rattle.rows.specs.Rows.{Setup, Take, kept_at, before_row, words_before, Row, start_of, row_from, row_by}
 use Rattle.refusals.specs.Calls.{Call, render, count_after, rows_after, position}
-use Rattle.refusals.proofs.Accepted.{Accepted}
 use Rattle.take.specs.declared.Answer.TheVariants.{Done}
 use Rattle.take.specs.Take.{result_of, Outcome, moved_by, call_of}
 use Rattle.take.proofs.Calls.{call_refused}
