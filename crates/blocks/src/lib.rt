@@ -3,77 +3,61 @@
 
 ghost use Rattle.std.specs.Prelude.{◌≡◌, length};
 ghost use Rattle.utils.specs.Rendered.{Places, Renders};
-ghost use Rattle.voice.specs.Voice.{rendered, Lent, Tables};
+ghost use Rattle.voice.specs.Voice.{rendered, Lent};
 
-use utils::engine::{CORNERS_LENGTH, EngineParameters, MOST_FRAMES, RUN_LENGTH};
-use utils::holds::Holds;
+use sine_oscillator::sine::sine_table;
+use terrain::Ground;
+use utils::engine::{Block, EngineParameters, Workspace};
+use utils::units::pitch_ratios;
 use voice::State;
 
-// The state after a block, and what was held.
-#[derive(Clone, Copy)]
-pub struct Block {
-    pub state: State,
-    pub holds: Holds,
+// A voice's own block, as a block of any state.
+fn among<S: Copy, F: FnOnce(S) -> State>(block: Block<S>, of: F) -> Block<State>
+    requires { F.pre of block.state }
+    ensures state { F.post of block.state result.state }
+    ensures holds { result.holds ≡ block.holds }
+{
+    Block {
+        state: of(block.state),
+        holds: block.holds,
+    }
 }
 
-// A row's block: one sample into each place of `out` and of `aux`. Tables and the arrays to work in are lent.
+// A row's block: one sample into each place of `out` and of `aux`. The arrays to work in are lent.
 pub fn render(
     state: State,
     parameters: EngineParameters,
     bank: &[i16],
     map: &[u8],
-    sine: &[f32; 641],
-    high: &[f32; 256],
-    low: &[f32; 256],
-    keys: &mut [u32; MOST_FRAMES],
-    run_1: &mut [f32; RUN_LENGTH],
-    run_2: &mut [f32; RUN_LENGTH],
-    run_3: &mut [f32; RUN_LENGTH],
-    run_4: &mut [f32; RUN_LENGTH],
-    corners: &mut [f32; CORNERS_LENGTH],
+    work: &mut Workspace,
     out: &mut [u32],
     aux: &mut [u32],
-) -> Block
+) -> Block<State>
     requires lent { Lent bank.now map.now }
-    requires tables { Tables sine.now high.now low.now }
     requires places { Places out.old aux.old }
     ensures { Renders (rendered bank.now map.now (length out.old) parameters state)
         (length out.old) result.state result.holds out.new aux.new }
 {
+    let ratios = pitch_ratios();
     match state {
-        State::Wavetable(w) => {
-            let b = w.render(
-                parameters, bank, high, low, keys, run_1, run_2, run_3, run_4, corners, out, aux,
-            );
-            let s = b.state;
-            let holds = b.holds;
-            Block {
-                state: State::Wavetable(s),
-                holds,
-            }
+        State::Wavetable(engine) => among(
+            engine.render(parameters, bank, ratios, work, out, aux),
+            State::Wavetable,
+        ),
+        State::Terrain(engine) => {
+            let ground = Ground {
+                sine: sine_table(),
+                bank,
+                map,
+            };
+            among(
+                engine.render(parameters, &ground, ratios, work, out, aux),
+                State::Terrain,
+            )
         }
-        State::Terrain(t) => {
-            let b = t.render(
-                parameters, bank, map, sine, high, low, keys, run_1, run_2, run_3, run_4, corners,
-                out, aux,
-            );
-            let s = b.state;
-            let holds = b.holds;
-            Block {
-                state: State::Terrain(s),
-                holds,
-            }
-        }
-        State::Oscillator(o) => {
-            let b = o.render(
-                parameters, bank, high, low, keys, run_1, run_2, run_3, run_4, corners, out, aux,
-            );
-            let s = b.state;
-            let holds = b.holds;
-            Block {
-                state: State::Oscillator(s),
-                holds,
-            }
-        }
+        State::Oscillator(oscillator) => among(
+            oscillator.render(parameters, bank, ratios, work, out, aux),
+            State::Oscillator,
+        ),
     }
 }

@@ -1,17 +1,15 @@
 -- Document 01, "The program `retake`": files are read "4 KiB at a time".
-use Rattle.std.specs.Prelude.{ℕ, ◌+◌, ◌≤◌, List, length}
+use Rattle.std.specs.Prelude.{ℕ, ◌≤◌, ◌≡◌, List, ◌++◌, length, Option}
+use Rattle.std.specs.Io.KnownBytes.{Consumes}
 
 -- "4 KiB"
 abbrev pub chunk : ℕ
 chunk = 4096
 
--- A read that starts at byte `at` of so many ends within them, at most a chunk further.
-pub record ChunkEnd (at len end : ℕ) : Type 0 where
-  pub starts : at ≤ end
-  pub within : end ≤ len
-  pub small : end ≤ at + chunk
-
--- So many bytes came in from byte `at` on, at most a chunk.
-pub record CameIn (bytes : List ℕ) (at got : ℕ) : Type 0 where
-  pub within : at + got ≤ length bytes
+-- So many bytes came in behind those that were there, at most a chunk, and a reader lost them, where it is known what it has left.
+pub record CameIn (left left' : Option (List ℕ)) (before now : List ℕ) (got : ℕ) : Type 0 where
+  pub bytes : List ℕ
+  pub behind : now ≡ before ++ bytes
+  pub count : got ≡ length bytes
   pub small : got ≤ chunk
+  pub read : Consumes left left' bytes

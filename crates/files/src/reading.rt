@@ -1,8 +1,10 @@
-// Reading a file into lent bytes, a chunk at a time.
-ghost use Rattle.std.specs.Prelude.{◌≤◌, length};
-ghost use Rattle.std.specs.Counts.{IsPrefixLen};
-ghost use Rattle.files.specs.Chunks.{ChunkEnd, CameIn};
+// Reading a file, a chunk at a time.
+ghost use Rattle.std.specs.Prelude.{◌≤◌, ◌+◌, ◌++◌, ◌≡◌};
+ghost use Rattle.std.specs.Io.KnownBytes.{Consumes};
+ghost use Rattle.arrayvec.specs.ArrayVec.{array_vec_len};
+ghost use Rattle.files.specs.Chunks.{CameIn};
 
+use arrayvec::ArrayVec;
 use std::fs;
 use std::io::Read;
 use std::rt::Files;
@@ -10,50 +12,40 @@ use std::rt::Files;
 // Files are read so many bytes at a time: 4 KiB.
 const CHUNK: usize = 4096;
 
-// Where a read that starts at byte `at` of `len` bytes is to end.
-fn chunk_end(at: usize, len: usize) -> usize
-    requires { at ≤ len }
-    ensures { ChunkEnd at len result }
+// Reads once, at most a chunk and no more than there is room for; how many bytes came, 0 at the file's end or where a read fails.
+fn read_some<R: Read, const N: usize>(file: &mut R, bytes: &mut ArrayVec<u8, N>) -> usize
+    ensures { CameIn (R.remaining file.old) (R.remaining file.new) bytes.old.items bytes.new.items result }
 {
-    if len - at > CHUNK {
-        return at + CHUNK;
-    }
-    len
+    let mut chunk = [0; CHUNK];
+    let room = bytes.remaining_capacity().min(CHUNK);
+    let got = file.read(&mut chunk[..room]).unwrap_or(0);
+    // There is room, so nothing is refused.
+    let _ = bytes.try_extend_from_slice(&chunk[..got]);
+    got
 }
 
-// Reads once, at most a chunk, from byte `at` on; how many bytes came, 0 at the file's end or where a read fails.
-fn read_some(file: &mut impl Read, bytes: &mut [u8], at: usize) -> usize
-    requires { at ≤ length bytes.old }
-    ensures { CameIn bytes.new at result }
+// Reads until there is no room or the file ends: the bytes that came are the first that the reader had left.
+fn read_all<R: Read, const N: usize>(file: &mut R) -> ArrayVec<u8, N>
+    ensures { Consumes (R.remaining file.old) (R.remaining file.new) result.items }
 {
-    let end = chunk_end(at, bytes.len());
-    file.read(&mut bytes[at..end]).unwrap_or(0)
-}
-
-// Reads until the bytes are full or the file ends; how many bytes came.
-fn read_all(file: &mut impl Read, bytes: &mut [u8]) -> usize
-    ensures { IsPrefixLen result bytes.new }
-{
-    let mut at = 0;
-    while at < bytes.len() {
-        let got = read_some(file, bytes, at);
-        if got == 0 {
-            return at;
+    let mut bytes = ArrayVec::new();
+    while !bytes.is_full() {
+        if read_some(file, &mut bytes) == 0 {
+            break;
         }
-        at += got;
     }
-    at
+    bytes
 }
 
-// Reads a file, as much of it as there is room for; one that won't open counts as empty. How many bytes came.
-pub fn read_file(files: &impl Files, path: &[u8], bytes: &mut [u8]) -> usize
-    ensures { IsPrefixLen result bytes.new }
+// Reads a file, at most N bytes of it; one that won't open counts as empty.
+pub fn read_file<const N: usize>(files: &impl Files, path: &[u8]) -> ArrayVec<u8, N>
+    ensures { array_vec_len result ≤ N }
 {
     let Ok(name) = str::from_utf8(path) else {
-        return 0;
+        return ArrayVec::new();
     };
     match fs::open(files, name) {
-        Ok(mut file) => read_all(&mut file, bytes),
-        Err(_) => 0,
+        Ok(mut file) => read_all(&mut file),
+        Err(_) => ArrayVec::new(),
     }
 }

@@ -1,8 +1,10 @@
 // Writing a file whole or not at all: a new file beside it is written first, and then takes its place. Where that fails, a line on
 // standard error says so, the new file is removed, and the old one is as it was.
-ghost use Rattle.std.specs.Counts.{IsPrefixLen};
+ghost use Rattle.std.specs.Prelude.{◌≡◌, ◌+◌, ◌≤◌, ◌++◌, length, IsSome, IfSome, ◌↔◌, OnOk};
+ghost use Rattle.std.specs.Io.KnownBytes.{Appends};
+ghost use Rattle.files.specs.Beside.{most_beside, beside};
 
-use formats::put_text;
+use arrayvec::ArrayVec;
 use std::fs::{File, OpenFile};
 use std::io::{Error, ErrorKind, Write};
 use std::rt::Files;
@@ -13,26 +15,23 @@ const MOST_NAME: usize = 60;
 
 const MOST_BESIDE: usize = MOST_NAME + 4;
 
-// The name of the file beside: `.new` behind the file's own name. Where it ends; 0, which is no name, for a name that is too long.
-fn put_beside(name: &[u8], beside: &mut [u8]) -> usize
-    ensures { IsPrefixLen result beside.new }
+// The name of the file beside: `.new` behind the file's own name. A name that is too long has none.
+fn put_beside(name: &[u8]) -> Option<ArrayVec<u8, MOST_BESIDE>>
+    ensures some { IfSome result (λ b. b.items ≡ beside name.now) }
+    ensures variant { IsSome result ↔ (length (beside name.now) ≤ most_beside) }
 {
-    if beside.len() < 4 {
-        return 0;
-    }
-    if name.len() > beside.len() - 4 {
-        return 0;
-    }
-    let end = put_text(name, beside, 0);
-    put_text(b".new", beside, end)
+    let mut beside = ArrayVec::new();
+    beside.try_extend_from_slice(name).ok()?;
+    beside.try_extend_from_slice(b".new").ok()?;
+    Some(beside)
 }
 
 // A name as the system's calls take it.
 fn as_text(name: &[u8]) -> io::Result<&str> {
-    match str::from_utf8(name) {
-        Ok(text) => Ok(text),
-        Err(_) => Err(Error::new(ErrorKind::InvalidFilename, "a name that is not UTF-8")),
-    }
+    str::from_utf8(name).map_err(|_| Error::new(
+        ErrorKind::InvalidFilename,
+        "a name that is not UTF-8",
+    ))
 }
 
 // A new file; there is none of this name yet.
@@ -57,40 +56,51 @@ fn fail(rt: &impl Eprint, name: &[u8], error: Error) {
 }
 
 // Writes all the bytes, and waits until they have reached the disk.
-fn fill(file: &mut (impl Write + OpenFile), bytes: &[u8]) -> io::Result<()> {
+fn fill<W: Write + OpenFile>(file: &mut W, bytes: &[u8]) -> io::Result<()>
+    ensures { OnOk result (Appends (W.contents file.old) (W.contents file.new) bytes.now) }
+{
     file.write_all(bytes)?;
     file.sync_all()
 }
 
-// Writes the file beside; whether all of it is there. One that an earlier run left is removed first.
-fn prepare(rt: &(impl Files + Eprint), name: &[u8], beside: &[u8], bytes: &[u8]) -> bool {
-    remove(rt, beside);
-    let mut file = match create(rt, beside) {
-        Ok(file) => file,
-        Err(e) => {
-            fail(rt, name, e);
-            return false;
+// A file's name, and the name of the file beside it, which holds all that the file is to hold.
+#[derive(Drop)]
+struct Draft<'a> {
+    name: &'a [u8],
+    beside: ArrayVec<u8, MOST_BESIDE>,
+}
+
+impl<'a> Draft<'a> {
+    // Writes the file beside: all of it, or nothing is left there. One that an earlier run left is removed first.
+    fn write(rt: &impl Files, name: &'a [u8], bytes: &[u8]) -> io::Result<Draft<'a>> {
+        let Some(beside) = put_beside(name) else {
+            return Err(Error::new(ErrorKind::InvalidFilename, "a name that is too long"));
+        };
+        let draft = Draft { name, beside };
+        draft.discard(rt);
+        let mut file = create(rt, &draft.beside)?;
+        if let Err(e) = fill(&mut file, bytes) {
+            draft.discard(rt);
+            return Err(e);
         }
-    };
-    match fill(&mut file, bytes) {
-        Ok(()) => true,
-        Err(e) => {
-            fail(rt, name, e);
-            remove(rt, beside);
-            false
+        Ok(draft)
+    }
+
+    // Removes the file beside, if it is there.
+    fn discard(&self, rt: &impl Files) {
+        remove(rt, &self.beside);
+    }
+
+    // The file beside takes the file's place.
+    fn replace(&self, rt: &(impl Files + Eprint)) {
+        if let Err(e) = rename(rt, &self.beside, self.name) {
+            fail(rt, self.name, e);
+            self.discard(rt);
         }
     }
 }
 
-// The file beside takes the file's place.
-fn replace(rt: &(impl Files + Eprint), name: &[u8], beside: &[u8]) {
-    if let Err(e) = rename(rt, beside, name) {
-        fail(rt, name, e);
-        remove(rt, beside);
-    }
-}
-
-// Writes two files; neither takes its place before both are written.
+// Writes two files; neither takes its place before both are written. What the system holds then, no contract can say.
 pub fn write_two(
     rt: &(impl Files + Eprint),
     first: &[u8],
@@ -98,17 +108,17 @@ pub fn write_two(
     second: &[u8],
     second_bytes: &[u8],
 ) {
-    let mut beside = [0u8; MOST_BESIDE];
-    let mut further = [0u8; MOST_BESIDE];
-    let end = put_beside(first, &mut beside);
-    let last = put_beside(second, &mut further);
-    if !prepare(rt, first, &beside[..end], first_bytes) {
-        return;
-    }
-    if !prepare(rt, second, &further[..last], second_bytes) {
-        remove(rt, &beside[..end]);
-        return;
-    }
-    replace(rt, first, &beside[..end]);
-    replace(rt, second, &further[..last]);
+    let one = match Draft::write(rt, first, first_bytes) {
+        Ok(draft) => draft,
+        Err(e) => return fail(rt, first, e),
+    };
+    let two = match Draft::write(rt, second, second_bytes) {
+        Ok(draft) => draft,
+        Err(e) => {
+            fail(rt, second, e);
+            return one.discard(rt);
+        }
+    };
+    one.replace(rt);
+    two.replace(rt);
 }

@@ -5,15 +5,15 @@
 // no files there; over older files, with a folder in the way of a new file; and once that is gone.
 #![tactic(auto)]
 
-ghost use Rattle.std.specs.Prelude.{◌≤◌, ◌<◌, length};
-ghost use Rattle.inputs.specs.Inputs.{most_text, bytes_of_bank};
+ghost use Rattle.std.specs.Prelude.{◌≤◌, length};
 
+use arrayvec::ArrayVec;
 use files::reading::read_file;
 use inputs::{BANK_BYTES, MOST_TEXT};
 use retake_lib::{BANK_ROOM, TEXT_ROOM};
 use std::fs;
 use std::rt::Files;
-use trial::{fill_bytes, say, say_number, sum_of};
+use trial::{fill, say, say_number, sum_of};
 
 // The bytes of the line of names of edits.txt.
 const NAMES: usize = 40;
@@ -30,11 +30,27 @@ fn remove(rt: &(impl Files + Print + Eprint), name: &str) {
     let _ = fs::remove_file(rt, name);
 }
 
-// The first n bytes as a file.
-fn put(rt: &(impl Files + Print + Eprint), name: &str, bytes: &[u8], n: usize)
-    requires { n ≤ length bytes.now }
-{
-    write_file(rt, name, &bytes[..n]);
+// A text, with zeros behind it up to one byte more than the most that is taken.
+#[derive(Clone, Copy)]
+struct Text {
+    bytes: [u8; TEXT_ROOM],
+    used: usize,
+    ghost within: { used ≤ length bytes },
+}
+
+// Reads a text.
+fn read_text(rt: &impl Files, name: &str) -> Text {
+    let text: ArrayVec<u8, TEXT_ROOM> = read_file(rt, name.as_bytes());
+    let used = text.len();
+    let mut bytes = [0; TEXT_ROOM];
+    bytes[..used].copy_from_slice(text.as_slice());
+    Text { bytes, used }
+}
+
+// A text as a file.
+fn put(rt: &(impl Files + Print + Eprint), name: &str, text: &Text) {
+    let used = text.used;
+    write_file(rt, name, &text.bytes[..used]);
 }
 
 // A file's name, and its bytes and their sum, or that there is none.
@@ -44,10 +60,9 @@ fn show(rt: &(impl Files + Print + Eprint), name: &str) {
         say(rt, b" none\n");
         return;
     }
-    let mut bytes = [0u8; 16384];
-    let n = read_file(rt, name.as_bytes(), &mut bytes);
-    say_number(rt, n as u64);
-    say_number(rt, sum_of(&bytes[..n]));
+    let bytes: ArrayVec<u8, 16384> = read_file(rt, name.as_bytes());
+    say_number(rt, bytes.len() as u64);
+    say_number(rt, sum_of(bytes.as_slice()));
     say(rt, b"\n");
 }
 
@@ -70,42 +85,34 @@ fn put_older(rt: &(impl Files + Print + Eprint)) {
 }
 
 // A text of the two lengths about the most, and then as it was.
-fn run_texts(rt: &(impl Files + Print + Eprint), name: &str, text: &[u8], used: usize)
-    requires most_text_in_bounds { most_text < length text.now }
-    requires used_in_bounds { used ≤ length text.now }
-{
-    put(rt, name, text, TEXT_ROOM);
+fn run_texts(rt: &(impl Files + Print + Eprint), name: &str, text: &Text) {
+    write_file(rt, name, &text.bytes);
     run(rt, b"a text of 8,193 bytes");
-    put(rt, name, text, MOST_TEXT);
+    write_file(rt, name, &text.bytes[..MOST_TEXT]);
     run(rt, b"a text of 8,192 bytes");
-    put(rt, name, text, used);
+    put(rt, name, text);
 }
 
 // A bank that is too long and one that is too short, and then a full one.
-fn run_banks(rt: &(impl Files + Print + Eprint), bank: &[u8])
-    requires { bytes_of_bank < length bank.now }
-{
-    put(rt, "bank.bin", bank, BANK_ROOM);
+fn run_banks(rt: &(impl Files + Print + Eprint), bank: &[u8; BANK_ROOM]) {
+    write_file(rt, "bank.bin", bank);
     run(rt, b"a bank of 50,689 bytes");
-    put(rt, "bank.bin", bank, BANK_BYTES - 1);
+    write_file(rt, "bank.bin", &bank[..BANK_BYTES - 1]);
     run(rt, b"a bank of 50,687 bytes");
     remove(rt, "out.f32");
     remove(rt, "aux.f32");
     run(rt, b"the same with no files");
-    put(rt, "bank.bin", bank, BANK_BYTES);
+    write_file(rt, "bank.bin", &bank[..BANK_BYTES]);
 }
 
 // The example, over older files too, and with no edits.
-fn run_example(rt: &(impl Files + Print + Eprint), edits: &[u8], used: usize)
-    requires most_text_in_bounds { most_text < length edits.now }
-    requires used_in_bounds { used ≤ length edits.now }
-{
+fn run_example(rt: &(impl Files + Print + Eprint), edits: &Text) {
     run(rt, b"the example");
     put_older(rt);
     run(rt, b"the example over older files");
-    put(rt, "edits.txt", edits, NAMES);
+    write_file(rt, "edits.txt", &edits.bytes[..NAMES]);
     run(rt, b"no edits");
-    put(rt, "edits.txt", edits, used);
+    put(rt, "edits.txt", edits);
 }
 
 // A folder is in the way of a new file.
@@ -117,59 +124,42 @@ fn run_blocked(rt: &(impl Files + Print + Eprint)) {
     run(rt, b"the folder gone");
 }
 
-// The runs up to those that are refused, from the two texts, so many bytes of each, and the bank.
+// The runs up to those that are refused.
 fn run_accepted(
     rt: &(impl Files + Print + Eprint),
-    score: &[u8],
-    score_bytes: usize,
-    edits: &[u8],
-    edits_bytes: usize,
-    bank: &[u8],
-)
-    requires score_bytes_in_bounds { score_bytes ≤ length score.now }
-    requires most_text_in_bounds { most_text < length edits.now }
-    requires edits_bytes_in_bounds { edits_bytes ≤ length edits.now }
-    requires bank_bytes_in_bounds { bytes_of_bank < length bank.now }
-{
+    score: &Text,
+    edits: &Text,
+    bank: &[u8; BANK_ROOM],
+) {
     remove(rt, "score.txt");
     remove(rt, "edits.txt");
     run(rt, b"nothing");
-    put(rt, "score.txt", score, score_bytes);
-    put(rt, "edits.txt", edits, edits_bytes);
+    put(rt, "score.txt", score);
+    put(rt, "edits.txt", edits);
     run(rt, b"no bank");
-    put(rt, "bank.bin", bank, BANK_BYTES);
-    run_example(rt, edits, edits_bytes);
+    write_file(rt, "bank.bin", &bank[..BANK_BYTES]);
+    run_example(rt, edits);
 }
 
 // The runs over older files.
 fn run_refused(
     rt: &(impl Files + Print + Eprint),
-    score: &[u8],
-    score_bytes: usize,
-    edits: &[u8],
-    edits_bytes: usize,
-    bank: &[u8],
-)
-    requires most_text_in_bounds { most_text < length score.now }
-    requires score_bytes_in_bounds { score_bytes ≤ length score.now }
-    requires most_text_in_bounds_2 { most_text < length edits.now }
-    requires edits_bytes_in_bounds { edits_bytes ≤ length edits.now }
-    requires bank_bytes_in_bounds { bytes_of_bank < length bank.now }
-{
+    score: &Text,
+    edits: &Text,
+    bank: &[u8; BANK_ROOM],
+) {
     put_older(rt);
-    run_texts(rt, "score.txt", score, score_bytes);
-    run_texts(rt, "edits.txt", edits, edits_bytes);
+    run_texts(rt, "score.txt", score);
+    run_texts(rt, "edits.txt", edits);
     run_banks(rt, bank);
     run_blocked(rt);
 }
 
 fn main(rt: HostRuntime) {
-    let mut score = [0u8; TEXT_ROOM];
-    let mut edits = [0u8; TEXT_ROOM];
+    let score = read_text(&rt, "score.txt");
+    let edits = read_text(&rt, "edits.txt");
     let mut bank = [0u8; BANK_ROOM];
-    let score_bytes = read_file(&rt, b"score.txt", &mut score);
-    let edits_bytes = read_file(&rt, b"edits.txt", &mut edits);
-    fill_bytes(1, &mut bank);
-    run_accepted(&rt, &score, score_bytes, &edits, edits_bytes, &bank);
-    run_refused(&rt, &score, score_bytes, &edits, edits_bytes, &bank);
+    fill(1, &mut bank);
+    run_accepted(&rt, &score, &edits, &bank);
+    run_refused(&rt, &score, &edits, &bank);
 }

@@ -1,114 +1,113 @@
--- No more rows or edits are read than there are words for: 12 stands before that. So texts that are taken give so many at most.
-use mathlib.Core.Path.{◌≡◌, refl, sym, ap, ◌∙◌}
-use mathlib.Core.Bool.{Bool, true, false, cond}
-use mathlib.Core.List.{List, ◌++◌}
-use Prim.Native.Nat.{ℕ, ◌*◌, ◌≤◌}
-use native.Mathlib.Omega.{arith}
-use borrow.Author.Tests.{eqb-true}
-use lib.Dec.{eqb, ltb, eqb→eq}
-use lib.ListN.{length, drop, length-replicate}
-use Rattle.score.specs.declared.refusal.Refusal.{Refusal}
-use Rattle.reader.specs.declared.ReadAnswer.{ReadAnswer}
-use Rattle.reader.specs.declared.ReadAnswer.TheVariants.{Read, Refused}
+-- What reading a text answers, and the first refusal of the three. No more rows or edits are read than there are words for: 12 stands before
+-- that.
+use Rattle.std.proofs.Common.{◌≡◌, refl, sym, ap, ◌∙◌, ℕ, ◌*◌, ◌≤◌, Bool, true, false, cond, ◌&&◌, ◌||◌, eqb, ltb, List, ◌++◌, length, drop, Result, Ok, Err, arith}
+use Rattle.std.proofs.lemmas.Bool.{ltb-false, eqb-true}
+use Rattle.std.proofs.lemmas.List.{length-replicate}
+use Rattle.score.specs.declared.refusal.Refusal.TheVariants.{Rows, Space, Bank}
 use Rattle.score.specs.Rows.{row_words}
-use Rattle.score.specs.Numbers.{refusal, bank_number, space_number}
-use Rattle.reader.specs.Reading.{Outcome, outcome, refuse, test_text, text_rows, count_number, settle, read_text, score_table, edit_table, read_of, read_edits_of, edit_words}
-use Rattle.text.specs.Text.{lines_of}
+use Rattle.score.specs.Rows as score_rows
+use Rattle.score.specs.Numbers.{Tested, accepted}
+use Rattle.score.specs.declared.refusal.Refusal.{Refusal}
+use Rattle.reader.specs.Reading.{Answer, Outcome, outcome, allowed, settle, test_count, read_text, score_table, edit_table, read_of, read_edits_of, edit_words, Accepted}
 use Rattle.reader.proofs.Accepted.{accepted_passes}
-use Rattle.reader.proofs.Settling.{room}
 use Rattle.inputs.specs.declared.Inputs.{Inputs}
-use Rattle.inputs.specs.declared.Inputs.TheVariants.{Taken, Turned}
-use Rattle.inputs.specs.Inputs.{most_text, most_rows, most_edits, bytes_of_bank, zeros, text_of, score_text, edits_text, inputs_of, TextsRead, Given}
+use Rattle.inputs.specs.Inputs.{most_rows, bytes_of_bank, zeros, test_length, text_of, score_text, edits_text, test_bank, read_into, inputs_by, inputs_of}
 
-pub refused_not : {A : Type 0} (r : Refusal) (count : ℕ) → Refused r ≡ Read count → A
-refused_not r count h = let z : ◌≡◌ {A = ℕ} 0 1 = cc in absurd (omega arith)
+-- ---- one text
+
+module _ (read : List ℕ → List ℕ → Outcome) (text words : List ℕ) where
+  pub too_long : {r : Refusal} → test_length text ≡ Err r → (text_of read text words).answer ≡ Err r
+  unfolding text_of
+  too_long e = rw e refl
+
+  pub as_read : {a : Answer} {left : List ℕ} → test_length text ≡ accepted → outcome a left ≡ read text words → text_of read text words ≡ outcome a left
+  unfolding text_of
+  as_read e h = rw e (sym h)
+
+-- ---- the three
+
+module _ (score edits : List ℕ) (bank : ℕ) where
+  pub score_refused : {r : Refusal} → (score_text score).answer ≡ Err r → inputs_of score edits bank ≡ Err r
+  unfolding inputs_by
+  score_refused e = rw e refl
+
+  pub edits_refused : {n : ℕ} {r : Refusal} → (score_text score).answer ≡ Ok n → (edits_text edits).answer ≡ Err r → inputs_of score edits bank ≡ Err r
+  unfolding inputs_by
+  edits_refused e h = rw (e, h) refl
+
+  pub bank_refused : {n m : ℕ} {r : Refusal} → (score_text score).answer ≡ Ok n → (edits_text edits).answer ≡ Ok m → test_bank bank ≡ Err r
+      → inputs_of score edits bank ≡ Err r
+  unfolding inputs_by
+  bank_refused e h b = rw (e, h, b) refl
+
+  pub all_taken : {n m : ℕ} {rows words : List ℕ} → score_text score ≡ outcome (Ok n) rows → edits_text edits ≡ outcome (Ok m) words
+      → test_bank bank ≡ accepted → inputs_of score edits bank ≡ Ok (read_into n rows m words)
+  unfolding inputs_by
+  all_taken e h b = rw (e, h, b) refl
 
 -- ---- words enough
 
-settled_fits : (words : ℕ) (r : ReadAnswer) (rows lent : List ℕ) (n : ℕ) → (settle false words r rows lent).answer ≡ Read n → words * n ≤ length lent
-unfolding settle
-settled_fits words (Refused r) rows lent n h = refused_not r n h
-settled_fits words (Read count) rows lent n h = pick (eqb number 0) refl h
+refused_not : {A : Type 0} (r : Refusal) (n : ℕ) → ◌≡◌ {A = Answer} (Err r) (Ok n) → A
+refused_not r n h = let z : ◌≡◌ {A = ℕ} 0 1 = cc in absurd (omega arith)
+
+settled_fits : (score : Bool) (words : ℕ) (a : Answer) (rows lent : List ℕ) (n : ℕ) → (settle score words a rows lent).answer ≡ Ok n → words * n ≤ length lent
+unfolding settle test_count
+settled_fits score words (Err r) rows lent n h = refused_not r n h
+settled_fits score words (Ok count) rows lent n h = pick (score && (eqb count 0 || ltb score_rows.most_rows count)) (ltb (length lent) (words * count)) refl h
   where
-    number : ℕ
-    number = count_number false words count (length lent)
+    pick : (a b : Bool) → ltb (length lent) (words * count) ≡ b
+        → (allowed (cond a (Err Rows) (cond b (Err Space) accepted)) (outcome (Ok count) (rows ++ drop (words * count) lent)) lent).answer ≡ Ok n → words * n ≤ length lent
+    pick true b e h = refused_not Rows n h
+    pick false true e h = refused_not Space n h
+    pick false false e h = let m : count ≡ n = cc in rw (sym m) (ltb-false (length lent) (words * count) e)
 
-    pick : (b : Bool) → eqb number 0 ≡ b → (cond b (outcome (Read count) (rows ++ drop (words * count) lent)) (refuse (refusal number 0) lent)).answer ≡ Read n
-        → words * n ≤ length lent
-    pick true e h = let m : count ≡ n = cc in rw (sym m) (room false words count (length lent) (eqb-true number 0 e))
-    pick false e h = refused_not (refusal number 0) n h
+pub read_fits : (text lent : List ℕ) (n : ℕ) → (read_of text lent).answer ≡ Ok n → row_words * n ≤ length lent
+unfolding read_of read_text score_table
+read_fits text lent n h = settled_fits true row_words _ _ lent n h
 
-read_fits : (text lent : List ℕ) (n : ℕ) → (read_of text lent).answer ≡ Read n → row_words * n ≤ length lent
-read_fits text lent n h = (accepted_passes text lent n h).space
-
-read_edits_fits : (text lent : List ℕ) (n : ℕ) → (read_edits_of text lent).answer ≡ Read n → edit_words * n ≤ length lent
+pub read_edits_fits : (text lent : List ℕ) (n : ℕ) → (read_edits_of text lent).answer ≡ Ok n → edit_words * n ≤ length lent
 unfolding read_edits_of read_text edit_table score_table
-read_edits_fits text lent n h = settled_fits edit_words (test_text edit_table false (lines_of text)) (text_rows edit_table (lines_of text)) lent n h
+read_edits_fits text lent n h = settled_fits false edit_words _ _ lent n h
 
-text_fits : (read : List ℕ → List ℕ → Outcome) (words : ℕ) → ((text lent : List ℕ) (n : ℕ) → (read text lent).answer ≡ Read n → words * n ≤ length lent)
-    → (text lent : List ℕ) (n : ℕ) → (text_of read text lent).answer ≡ Read n → words * n ≤ length lent
-unfolding text_of
-text_fits read words fits text lent n h = pick (ltb most_text (length text)) h
-  where
-    pick : (b : Bool) → (cond b (refuse (refusal space_number 0) lent) (read text lent)).answer ≡ Read n → words * n ≤ length lent
-    pick true h = refused_not (refusal space_number 0) n h
-    pick false h = fits text lent n h
+pub zeros_long : {l : List ℕ} (n : ℕ) → l ≡ zeros n → length l ≡ n
+unfolding zeros
+zeros_long n e = ap length e ∙ length-replicate {A = ℕ} n 0
 
 -- ---- inputs that are taken
 
-pub record Accepted (a b : ReadAnswer) (bank n m : ℕ) : Type 0 where
-  pub score : a ≡ Read n
-  pub edits : b ≡ Read m
+pub record Taken (score edits : List ℕ) (bank : ℕ) (given : Inputs) : Type 0 where
+  pub answer : (score_text score).answer ≡ Ok given.count
+  pub rows : (score_text score).rows ≡ given.rows
   pub bank_long : bank ≡ bytes_of_bank
 
-turned_not : {A : Type 0} (r : Refusal) (k m : ℕ) → Turned r ≡ Taken k m → A
-turned_not r k m h = let z : ◌≡◌ {A = ℕ} 0 1 = cc in absurd (omega arith)
-
-pub accepted : (a b : ReadAnswer) (bank n m : ℕ) → inputs_of a b bank ≡ Taken n m → Accepted a b bank n m
-unfolding inputs_of
-accepted (Refused r) b bank n m h = turned_not r n m h
-accepted (Read rows) (Refused r) bank n m h = turned_not r n m h
-accepted (Read rows) (Read edits) bank n m h = pick (eqb bank bytes_of_bank) refl h
+pub taken : (score edits : List ℕ) (bank : ℕ) (given : Inputs) → inputs_of score edits bank ≡ Ok given → Taken score edits bank given
+unfolding inputs_by test_bank
+taken score edits bank given h = by (score_text score).answer (edits_text edits).answer (eqb bank bytes_of_bank) refl refl h
   where
-    pick : (c : Bool) → eqb bank bytes_of_bank ≡ c → cond c (Taken rows edits) (Turned (refusal bank_number 0)) ≡ Taken n m → Accepted (Read rows) (Read edits) bank n m
-    pick true q h = record { score = cc; edits = cc; bank_long = eqb→eq bank bytes_of_bank (rw q tt) }
-    pick false q h = turned_not (refusal bank_number 0) n m h
+    not_taken : (r : Refusal) → ◌≡◌ {A = Result Inputs Refusal} (Err r) (Ok given) → Taken score edits bank given
+    not_taken r h = let z : ◌≡◌ {A = ℕ} 0 1 = cc in absurd (omega arith)
 
--- ---- what was read
+    by : (a b : Answer) (q : Bool) → (score_text score).answer ≡ a → eqb bank bytes_of_bank ≡ q
+        → inputs_by a (score_text score).rows b (edits_text edits).rows (cond q accepted (Err Bank)) ≡ Ok given → Taken score edits bank given
+    by (Err r) b q e f h = not_taken r h
+    by (Ok n) (Err r) q e f h = not_taken r h
+    by (Ok n) (Ok m) false e f h = not_taken Bank h
+    by (Ok n) (Ok m) true e f h =
+        let g : read_into n (score_text score).rows m (edits_text edits).rows ≡ given = cc in
+        let count : Inputs → Answer = λ i. Ok i.count in
+        record {
+          answer = e ∙ ap count g;
+          rows = ap (λ (i : Inputs). i.rows) g;
+          bank_long = eqb-true bank bytes_of_bank f;
+        }
 
-zeros_long : (n : ℕ) → length (zeros n) ≡ n
-unfolding zeros
-zeros_long n = length-replicate {A = ℕ} n 0
+pub score_brings : (text : List ℕ) (n : ℕ) → (score_text text).answer ≡ Ok n → Accepted n (zeros (most_rows * row_words)) (score_text text).rows
+unfolding text_of
+score_brings text n e = pick (test_length text) e
+  where
+    lent : List ℕ
+    lent = zeros (most_rows * row_words)
 
-pub texts_read : (score edits : List ℕ) (bank : ℕ) (scored listed : ReadAnswer) {rows₀ rows words₀ words : List ℕ} {given : Inputs}
-    → rows₀ ≡ zeros (most_rows * row_words) → words₀ ≡ zeros (most_edits * edit_words)
-    → outcome scored rows ≡ text_of read_of score rows₀ → outcome listed words ≡ text_of read_edits_of edits words₀
-    → length rows ≡ length rows₀ → length words ≡ length words₀ → given ≡ inputs_of scored listed bank
-    → TextsRead score edits bank given rows words
-texts_read score edits bank scored listed {rows₀} {rows} {words₀} {words} z y r e j k g =
-    let s : outcome scored rows ≡ score_text score = r ∙ ap (λ (l : List ℕ). text_of read_of score l) z in
-    let t : outcome listed words ≡ edits_text edits = e ∙ ap (λ (l : List ℕ). text_of read_edits_of edits l) y in
-    record {
-      given_is = rw (sym s, sym t) g;
-      rows_is = ap (λ (o : Outcome). o.rows) s;
-      rows_long = j ∙ rw z (zeros_long (most_rows * row_words));
-      words_is = ap (λ (o : Outcome). o.rows) t;
-      words_long = k ∙ rw y (zeros_long (most_edits * edit_words));
-    }
-
--- ---- what they give
-
-module _ {score edits : List ℕ} {bank n m : ℕ} {given : Inputs} {rows words : List ℕ} (t : TextsRead score edits bank given rows words) (e : given ≡ Taken n m) where
-  taken : Accepted (score_text score).answer (edits_text edits).answer bank n m
-  taken = accepted (score_text score).answer (edits_text edits).answer bank n m (sym t.given_is ∙ e)
-
-  pub full_bank : bank ≡ bytes_of_bank
-  full_bank = taken.bank_long
-
-  pub given_within : Given n m rows words
-  given_within =
-      let l = zeros_long (most_rows * row_words) in
-      let l' = zeros_long (most_edits * edit_words) in
-      let p = text_fits read_of row_words read_fits score (zeros (most_rows * row_words)) n taken.score in
-      let q = text_fits read_edits_of edit_words read_edits_fits edits (zeros (most_edits * edit_words)) m taken.edits in
-      record { rows_most = omega arith; edits_most = omega arith; rows_long = t.rows_long; words_long = t.words_long }
+    pick : (t : Tested) → (allowed t (read_of text lent) lent).answer ≡ Ok n → Accepted n lent (allowed t (read_of text lent) lent).rows
+    pick (Ok u) e = accepted_passes text lent n e
+    pick (Err r) e = refused_not r n e

@@ -1,12 +1,12 @@
 -- Document 01, "The program `retake`": what it makes of the two texts and the bank, and the first refusal of the three.
-use Rattle.std.specs.Prelude.{ℕ, ◌*◌, ◌≤◌, ◌≡◌, cond, List, eqb, ltb, length, replicate}
+use Rattle.std.specs.Prelude.{ℕ, ◌*◌, ◌≤◌, cond, List, eqb, ltb, length, replicate, Result, Ok, Err}
+use Rattle.std.specs.Result.{result_and}
 use Rattle.score.specs.Rows.{row_words}
-use Rattle.score.specs.Numbers.{refusal, bank_number, space_number}
-use Rattle.reader.specs.declared.ReadAnswer.{ReadAnswer}
-use Rattle.reader.specs.declared.ReadAnswer.TheVariants.{Read, Refused}
-use Rattle.reader.specs.Reading.{Outcome, refuse, read_of, read_edits_of, edit_words}
+use Rattle.score.specs.Numbers.{Tested, accepted}
+use Rattle.score.specs.declared.refusal.Refusal.{Refusal}
+use Rattle.score.specs.declared.refusal.Refusal.TheVariants.{Bank, Space}
+use Rattle.reader.specs.Reading.{Answer, Outcome, allowed, read_of, read_edits_of, edit_words}
 use Rattle.inputs.specs.declared.Inputs.{Inputs}
-use Rattle.inputs.specs.declared.Inputs.TheVariants.{Taken, Turned}
 
 -- "a text above 8,192 bytes"
 abbrev pub most_text : ℕ
@@ -27,9 +27,13 @@ bytes_of_bank = 50688
 unfoldable pub zeros : ℕ → List ℕ
 zeros n = replicate n 0
 
--- A text read by a reader: above 8,192 bytes it "gives 12 before anything else in it".
+-- A text above 8,192 bytes "gives 12 before anything else in it".
+unfoldable pub test_length : List ℕ → Tested
+test_length text = cond (ltb most_text (length text)) (Err Space) accepted
+
+-- A text read by a reader.
 unfoldable pub text_of : (List ℕ → List ℕ → Outcome) → List ℕ → List ℕ → Outcome
-text_of read text words = cond (ltb most_text (length text)) (refuse (refusal space_number 0) words) (read text words)
+text_of read text words = allowed (test_length text) (read text words) words
 
 -- The score's text and the edits' text: "more than 128 rows or 32 edits give 12 last", since there are words for so many.
 abbrev pub score_text : List ℕ → Outcome
@@ -38,23 +42,28 @@ score_text text = text_of read_of text (zeros (most_rows * row_words))
 abbrev pub edits_text : List ℕ → Outcome
 edits_text text = text_of read_edits_of text (zeros (most_edits * edit_words))
 
--- "The score is read first, then the edits, then the bank": how many rows and edits there are, or the first refusal. The bank by its length.
-unfoldable pub inputs_of : ReadAnswer → ReadAnswer → ℕ → Inputs
-inputs_of (Refused r) edits bank = Turned r
-inputs_of (Read rows) (Refused r) bank = Turned r
-inputs_of (Read rows) (Read edits) bank = cond (eqb bank bytes_of_bank) (Taken rows edits) (Turned (refusal bank_number 0))
+-- Rows and edits that were read: how many, and the words that they were read into.
+abbrev pub read_into : ℕ → List ℕ → ℕ → List ℕ → Inputs
+read_into n rows m words = record { count = n; rows = rows; edit_count = m; edits = words }
 
--- The texts were read: what was made of them and of the bank's length, and the words of both as they are left.
-pub record TextsRead (score edits : List ℕ) (bank : ℕ) (given : Inputs) (rows words : List ℕ) : Type 0 where
-  pub given_is : given ≡ inputs_of (score_text score).answer (edits_text edits).answer bank
-  pub rows_is : rows ≡ (score_text score).rows
-  pub rows_long : length rows ≡ most_rows * row_words
-  pub words_is : words ≡ (edits_text edits).rows
-  pub words_long : length words ≡ most_edits * edit_words
+-- The bank is told by its length.
+unfoldable pub test_bank : ℕ → Tested
+test_bank bank = cond (eqb bank bytes_of_bank) accepted (Err Bank)
 
--- What texts that are taken give: n rows and so many edits, in words for the most of them.
-pub record Given (n count : ℕ) (rows words : List ℕ) : Type 0 where
-  pub rows_most : n ≤ most_rows
-  pub edits_most : count ≤ most_edits
-  pub rows_long : length rows ≡ most_rows * row_words
-  pub words_long : length words ≡ most_edits * edit_words
+-- "The score is read first, then the edits, then the bank": the rows and the edits, or the first refusal.
+unfoldable pub inputs_by : Answer → List ℕ → Answer → List ℕ → Tested → Result Inputs Refusal
+inputs_by (Err r) rows edits words bank = Err r
+inputs_by (Ok n) rows (Err r) words bank = Err r
+inputs_by (Ok n) rows (Ok m) words bank = result_and bank (Ok (read_into n rows m words))
+
+-- So the program takes the two texts and the bank, by the bank's length.
+abbrev pub inputs_of : List ℕ → List ℕ → ℕ → Result Inputs Refusal
+inputs_of score edits bank =
+    let s = score_text score in
+    let e = edits_text edits in
+    inputs_by s.answer s.rows e.answer e.rows (test_bank bank)
+
+-- There are words for the most rows and edits, and no more are read.
+pub record Within (given : Inputs) : Type 0 where
+  pub rows_most : given.count ≤ most_rows
+  pub edits_most : given.edit_count ≤ most_edits

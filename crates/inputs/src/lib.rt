@@ -1,14 +1,12 @@
 // What the program reads: the score's text, the edits' text and the bank, and the first refusal of the three.
 #![tactic(auto)]
 
-ghost use Rattle.std.specs.Prelude.{◌≡◌, ◌*◌};
-ghost use Rattle.score.specs.Rows.{row_words};
-ghost use Rattle.reader.specs.Reading.{outcome, read_of, read_edits_of, edit_words};
-ghost use Rattle.inputs.specs.Inputs.{zeros, most_rows, most_edits, text_of, inputs_of, TextsRead};
+ghost use Rattle.std.specs.Prelude.{◌≡◌, IfOk};
+ghost use Rattle.inputs.specs.Inputs.{zeros, test_length, test_bank, inputs_of, Within};
 
 use oscillator::bank::BANK_LENGTH;
-use reader::{EDIT_WORDS, ReadAnswer};
-use score::refusal::{BANK, Refusal, SPACE};
+use reader::EDIT_WORDS;
+use score::refusal::Refusal;
 use score::rows::ROW_WORDS;
 
 // The most bytes of a text.
@@ -21,87 +19,61 @@ pub const MOST_EDITS: usize = 32;
 // The bytes of a full bank.
 pub const BANK_BYTES: usize = BANK_LENGTH * 2;
 
-// How many rows and edits the texts have, or the first refusal.
+// Rows and edits that were read: how many, and their words. The reader and the calls take words in a row and a count beside them.
 #[derive(Clone, Copy)]
-pub enum Inputs {
-    Taken(usize, usize),
-    Turned(Refusal),
+pub struct Inputs {
+    pub count: usize,
+    pub rows: [u32; MOST_ROWS * ROW_WORDS],
+    pub edit_count: usize,
+    pub edits: [u32; MOST_EDITS * EDIT_WORDS],
 }
 
-// Words for the most rows.
-pub fn no_rows() -> [u32; MOST_ROWS * ROW_WORDS]
-    ensures { result ≡ zeros (most_rows * row_words) }
+// So many words of 0.
+#[tactic(auto, unfolding(crate::specs::Inputs::zeros))]
+pub fn zeros<const N: usize>() -> [u32; N]
+    ensures { result ≡ zeros N }
 {
-    [0; MOST_ROWS * ROW_WORDS]
+    [0; N]
 }
 
-// Words for the most edits.
-pub fn no_edits() -> [u32; MOST_EDITS * EDIT_WORDS]
-    ensures { result ≡ zeros (most_edits * edit_words) }
-{
-    [0; MOST_EDITS * EDIT_WORDS]
-}
-
-// Reads the score's text.
-fn read_score(text: &[u8], rows: &mut [u32]) -> ReadAnswer
-    ensures { outcome result rows.new ≡ text_of read_of text.now rows.old }
+// A text that is too long is refused before anything in it.
+#[tactic(auto, unfolding(crate::specs::Inputs::test_length))]
+fn test_length(text: &[u8]) -> Result<(), Refusal>
+    ensures { result ≡ test_length text.now }
 {
     if text.len() > MOST_TEXT {
-        return ReadAnswer::Refused(Refusal {
-            number: SPACE,
-            place: 0,
-        });
+        return Err(Refusal::Space);
     }
-    reader::read(text, rows)
+    Ok(())
 }
 
-// Reads the edits' text.
-fn read_edits(text: &[u8], edits: &mut [u32]) -> ReadAnswer
-    ensures { outcome result edits.new ≡ text_of read_edits_of text.now edits.old }
+// A bank of another length than a full one is refused.
+#[tactic(auto, unfolding(crate::specs::Inputs::test_bank))]
+fn test_bank(bank: usize) -> Result<(), Refusal>
+    ensures { result ≡ test_bank bank }
 {
-    if text.len() > MOST_TEXT {
-        return ReadAnswer::Refused(Refusal {
-            number: SPACE,
-            place: 0,
-        });
+    if bank != BANK_BYTES {
+        return Err(Refusal::Bank);
     }
-    reader::read_edits(text, edits)
+    Ok(())
 }
 
-// The first refusal is the score's, then the edits', then the bank's, which is known by its length.
-fn settle(score: ReadAnswer, edits: ReadAnswer, bank: usize) -> Inputs
-    ensures { result ≡ inputs_of score edits bank }
+// Reads the score, then the edits; the bank is told by its length.
+pub fn read(score: &[u8], edits: &[u8], bank: usize) -> Result<Inputs, Refusal>
+    ensures value { result ≡ inputs_of score.now edits.now bank }
+    ensures within { IfOk result (λ given. Within given) }
 {
-    match score {
-        ReadAnswer::Refused(r) => Inputs::Turned(r),
-        ReadAnswer::Read(rows) => match edits {
-            ReadAnswer::Refused(r) => Inputs::Turned(r),
-            ReadAnswer::Read(count) => {
-                if bank != BANK_BYTES {
-                    return Inputs::Turned(Refusal {
-                        number: BANK,
-                        place: 0,
-                    });
-                }
-                Inputs::Taken(rows, count)
-            }
-        },
-    }
-}
-
-// Reads the two texts into words for the most rows and edits, all 0 before; the bank is told by its length.
-pub fn read(
-    score: &[u8],
-    edits: &[u8],
-    bank: usize,
-    rows: &mut [u32; MOST_ROWS * ROW_WORDS],
-    words: &mut [u32; MOST_EDITS * EDIT_WORDS],
-) -> Inputs
-    requires rows_value { rows.old ≡ zeros (most_rows * row_words) }
-    requires words_value { words.old ≡ zeros (most_edits * edit_words) }
-    ensures { TextsRead score.now edits.now bank result rows.new words.new }
-{
-    let scored = read_score(score, rows);
-    let listed = read_edits(edits, words);
-    settle(scored, listed, bank)
+    let mut rows = zeros();
+    let mut words = zeros();
+    test_length(score)?;
+    let count = reader::read(score, &mut rows)?;
+    test_length(edits)?;
+    let edit_count = reader::read_edits(edits, &mut words)?;
+    test_bank(bank)?;
+    Ok(Inputs {
+        count,
+        rows,
+        edit_count,
+        edits: words,
+    })
 }

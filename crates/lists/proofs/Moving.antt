@@ -1,12 +1,6 @@
 -- Moving a chunk_length of numbers at a time: what is moved so far, and what is left.
-use mathlib.Core.Path.{◌≡◌, refl, sym, ap, ◌∙◌}
-use mathlib.Core.List.{List, [], ◌++◌, append_assoc}
-use Prim.Native.Nat.{ℕ, ◌+◌, ◌-◌, ◌*◌, ◌≤◌, ◌<◌}
-use native.Mathlib.Nat.{le_refl, suc-mul, add-mul}
-use native.Mathlib.Numerals.{add-one}
-use native.Mathlib.Omega.{arith}
-use lib.ListN.{length, take, drop, length-append, length-drop, take-append-drop}
-use lib.Seq.{length-take-le, take-add, take_at, drop_at, take-append-le, drop-drop, take-take}
+use Rattle.std.proofs.Common.{◌≡◌, refl, sym, ap, ◌∙◌, List, [], ◌++◌, append_assoc, ℕ, ◌+◌, ◌-◌, ◌*◌, ◌≤◌, ◌<◌, le_refl, suc-mul, add-mul, add-one, arith, length, take, drop, length-append, length-drop, take-append-drop, length-take-le, take-add, take_at, drop_at, drop-drop, take-take}
+use lib.Seq.{take-append-le}
 use Rattle.lists.specs.Lists.{put, shift_up, shift_down}
 use Rattle.lists.proofs.Places.{put_before, put_behind, put_same_length, part_in_front}
 

@@ -1,5 +1,6 @@
 -- Document 01, "Score text": the line of names, and where each word of a row comes from by it. The table of names is a parameter.
-use Rattle.std.specs.Prelude.{ℕ, ◌+◌, Bool, true, false, ◌&&◌, cond, List, [], ◌∷◌, map, length, ltb, eqb}
+use Rattle.std.specs.Prelude.{ℕ, Bool, true, false, ◌&&◌, List, map, length, ltb, eqb, count_by, Option, Some, None}
+use Rattle.std.specs.List.{list_all}
 use Rattle.text.specs.Text.{Line, ended, unended, contents, first_of, fields_of, column_of}
 use Rattle.names.specs.declared.Source.{Source}
 use Rattle.names.specs.declared.Source.TheVariants.{Column, Word, Missing}
@@ -10,11 +11,14 @@ pub record Entry : Type 0 where
   pub spelling : List ℕ
   pub absent : Source
 
+-- The source of a name that stands in a column, or is absent.
+abbrev pub source_at : Option ℕ → Source → Source
+source_at (Some column) absent = Column column
+source_at None absent = absent
+
 -- Where a name's word comes from, by the fields of the first line.
 abbrev pub source_of : List (List ℕ) → Entry → Source
-source_of fields entry =
-    let column = column_of entry.spelling fields in
-    cond (ltb column (length fields)) (Column column) entry.absent
+source_of fields entry = source_at (column_of entry.spelling fields) entry.absent
 
 unfoldable pub sources_of : List Entry → List (List ℕ) → List Source
 sources_of table fields = map (source_of fields) table
@@ -26,18 +30,16 @@ readable n (Word word) = true
 readable n Missing = false
 
 unfoldable pub each_readable : ℕ → List Source → Bool
-each_readable n [] = true
-each_readable n (source ∷ sources) = readable n source && each_readable n sources
+each_readable n sources = list_all (readable n) sources
 
 -- How many of some sources are columns.
-abbrev pub columns_in : Source → ℕ
-columns_in (Column column) = 1
-columns_in (Word word) = 0
-columns_in Missing = 0
+abbrev pub is_column : Source → Bool
+is_column (Column column) = true
+is_column (Word word) = false
+is_column Missing = false
 
 unfoldable pub column_count : List Source → ℕ
-column_count [] = 0
-column_count (source ∷ sources) = columns_in source + column_count sources
+column_count sources = count_by is_column sources
 
 -- "any order, each once": each name, all of which differ, has a column or may be absent, and as many fields are there as names with a column.
 unfoldable pub each_once : ℕ → List Source → Bool

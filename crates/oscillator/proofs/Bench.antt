@@ -1,8 +1,6 @@
 -- Document 01, "Bench values", of the Hermite reading, computed.
-use mathlib.Core.Path.{◌≡◌, refl}
-use mathlib.Core.List.{[], ◌∷◌}
-use lib.IntN.{pos}
-use lib.Ieee.{add, sub, mul, of_int}
+use Rattle.std.proofs.Common.{◌≡◌, refl, [], ◌∷◌, pos}
+use Rattle.std.specs.Float.Ieee.{add, sub, mul, of_int}
 use Rattle.words.specs.Binary32.{decimal}
 use Rattle.oscillator.specs.Readings.{interpolate_wave_hermite, float_of_i16}
 

@@ -1,11 +1,5 @@
 -- The shared fact of the readings, over the element: a reading of the part of a table from k on is the reading of the table k places further.
-use mathlib.Core.Path.{◌≡◌, sym, ap, ◌∙◌}
-use mathlib.Core.List.{List}
-use Prim.Native.Nat.{ℕ, ◌+◌}
-use native.Mathlib.Nat.{add_assoc}
-use lib.ListN.{drop, get_or}
-use lib.Seq.{get_or-drop}
-use lib.Ieee.{Float}
+use Rattle.std.proofs.Common.{◌≡◌, sym, ap, ◌∙◌, List, ℕ, ◌+◌, add_assoc, drop, get_or, get_or-drop, Float}
 use Rattle.oscillator.specs.Readings.{entry_at, interpolate_wave, interpolate_wave_hermite, interpolate_integrated_wave}
 
 module _ {A : Type 0} (float : A → Float) (none : A) (table : List A) (k i : ℕ) (f : Float) where

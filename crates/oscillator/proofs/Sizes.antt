@@ -1,7 +1,6 @@
 -- The measures of the bank agree with each other, and the period as a float is the literal that the code has.
-use Prim.Native.Nat.{◌+◌, ◌*◌}
-use mathlib.Core.Path.{◌≡◌, refl}
-use lib.Ieee.{of_int, round}
+use Rattle.std.proofs.Common.{◌+◌, ◌*◌, ◌≡◌, refl}
+use Rattle.std.specs.Float.Ieee.{of_int, round}
 use Rattle.words.specs.Binary32.{decimal}
 use Rattle.oscillator.specs.Bank.{bank_length, waves, wave_length, table_size, table_size_f}
 

@@ -1,11 +1,12 @@
 // Integrated wavetable synthesis: what the voices that read waves share, phase and coefficient, the differentiator, and the readings of a table.
 // Based on MIT-licensed code (c) 2016 by Emilie Gillet (emilie.o.gillet@gmail.com)
-ghost use Rattle.std.specs.Prelude.{◌≡◌, ◌+◌, ◌<◌, length, pos};
+ghost use Rattle.std.specs.Prelude.{◌≡◌, ◌+◌, ◌<◌, length, pos, Float};
 ghost use Rattle.oscillator.specs.Readings.{advanced, cutoff_of, differentiated, float_of_i16, float_of_u8, entry_at, interpolate_wave, interpolate_wave_hermite, interpolate_integrated_wave};
 
 use crate::bank::TABLE_SIZE_F;
 
 // The phase one frame on.
+#[tactic(auto, unfolding(words::specs::Binary32::of_bits, words::specs::Binary32::decimal))]
 pub fn advance(phase: f32, f0: f32) -> f32
     ensures { result ≡ advanced phase f0 }
 {
@@ -45,47 +46,72 @@ impl Differentiator {
     }
 }
 
-// Linear interpolation between two entries of a table of bytes.
-pub fn interpolate_wave_u8(table: &[u8], index_integral: usize, index_fractional: f32) -> f32
-    requires { index_integral + 1 < length table.now }
-    ensures { result ≡ interpolate_wave float_of_u8 0 table.now index_integral index_fractional }
-{
-    let a = table[index_integral] as f32;
-    let b = table[index_integral + 1] as f32;
-    let t = index_fractional;
+// What a table of waves can hold: numbers that have a float.
+pub trait Entry: Copy {
+    // The float of an entry, and what stands past a table's end, where nothing reads.
+    ghost value: { Self → Float };
 
-    a + (b - a) * t
+    ghost zero: { Self };
+
+    fn to_f32(self) -> f32
+        ensures { result ≡ value self };
 }
 
-// An entry of a table of i16.
-fn to_f32(table: &[i16], i: usize) -> f32
+impl Entry for u8 {
+    ghost value = { float_of_u8 };
+
+    ghost zero = { 0 };
+
+    fn to_f32(self) -> f32 {
+        self as f32
+    }
+}
+
+impl Entry for i16 {
+    ghost value = { float_of_i16 };
+
+    ghost zero = { pos 0 };
+
+    fn to_f32(self) -> f32 {
+        self as f32
+    }
+}
+
+// An entry of a table, as a float.
+fn float_at<T: Entry>(table: &[T], i: usize) -> f32
     requires { i < length table.now }
-    ensures { result ≡ entry_at float_of_i16 (pos 0) table.now i }
+    ensures { result ≡ entry_at T.value T.zero table.now i }
 {
-    table[i] as f32
+    table[i].to_f32()
 }
 
-// The same of i16.
-pub fn interpolate_wave_i16(table: &[i16], index_integral: usize, index_fractional: f32) -> f32
+// Linear interpolation between two entries.
+#[tactic(auto, unfolding(crate::specs::Readings::interpolate_wave))]
+pub fn interpolate_wave<T: Entry>(table: &[T], index_integral: usize, index_fractional: f32) -> f32
     requires { index_integral + 1 < length table.now }
-    ensures { result ≡ interpolate_wave float_of_i16 (pos 0) table.now index_integral index_fractional }
+    ensures { result ≡ interpolate_wave T.value T.zero table.now index_integral index_fractional }
 {
-    let a = to_f32(table, index_integral);
-    let b = to_f32(table, index_integral + 1);
+    let a = float_at(table, index_integral);
+    let b = float_at(table, index_integral + 1);
     let t = index_fractional;
 
     a + (b - a) * t
 }
 
 // Hermite interpolation over four entries, between the second and the third.
-pub fn interpolate_wave_hermite(table: &[i16], index_integral: usize, index_fractional: f32) -> f32
+#[tactic(auto, unfolding(crate::specs::Readings::interpolate_wave_hermite, words::specs::Binary32::of_bits, words::specs::Binary32::decimal))]
+pub fn interpolate_wave_hermite<T: Entry>(
+    table: &[T],
+    index_integral: usize,
+    index_fractional: f32,
+) -> f32
     requires { index_integral + 3 < length table.now }
-    ensures { result ≡ interpolate_wave_hermite float_of_i16 (pos 0) table.now index_integral index_fractional }
+    ensures { result ≡ interpolate_wave_hermite T.value T.zero table.now index_integral index_fractional }
 {
-    let xm1 = to_f32(table, index_integral);
-    let x0 = to_f32(table, index_integral + 1);
-    let x1 = to_f32(table, index_integral + 2);
-    let x2 = to_f32(table, index_integral + 3);
+    let xm1 = float_at(table, index_integral);
+    let x0 = float_at(table, index_integral + 1);
+    let x1 = float_at(table, index_integral + 2);
+    let x2 = float_at(table, index_integral + 3);
     let c = (x1 - xm1) * 0.5;
     let v = x0 - x1;
     let w = c + v;
@@ -97,17 +123,18 @@ pub fn interpolate_wave_hermite(table: &[i16], index_integral: usize, index_frac
 }
 
 // Linear interpolation between the differences of three entries.
-pub fn interpolate_integrated_wave(
-    table: &[i16],
+#[tactic(auto, unfolding(crate::specs::Readings::interpolate_integrated_wave))]
+pub fn interpolate_integrated_wave<T: Entry>(
+    table: &[T],
     index_integral: usize,
     index_fractional: f32,
 ) -> f32
     requires { index_integral + 2 < length table.now }
-    ensures { result ≡ interpolate_integrated_wave float_of_i16 (pos 0) table.now index_integral index_fractional }
+    ensures { result ≡ interpolate_integrated_wave T.value T.zero table.now index_integral index_fractional }
 {
-    let a = to_f32(table, index_integral);
-    let b = to_f32(table, index_integral + 1);
-    let c = to_f32(table, index_integral + 2);
+    let a = float_at(table, index_integral);
+    let b = float_at(table, index_integral + 1);
+    let c = float_at(table, index_integral + 2);
     let t = index_fractional;
 
     (b - a) + (c - b - b + a) * t

@@ -1,3 +1,1 @@
--- What the proofs of this crate share.
-pub mod Lengths
-pub mod Handing
+-- What the proofs of this crate share: nothing.

@@ -1,21 +1,16 @@
 -- Document 01's own limits and texts, by the definitions: each fact is a computation.
-use mathlib.Core.Path.{◌≡◌, refl}
-use mathlib.Core.Bool.{true, false}
-use mathlib.Core.List.{List, [], ◌∷◌, ◌++◌}
-use Prim.Native.Nat.{ℕ}
-use lib.ListN.{replicate}
+use Rattle.std.proofs.Common.{◌≡◌, refl, true, false, List, [], ◌∷◌, ◌++◌, ℕ, replicate, Ok}
 use lib.Ieee.{of_bits, le}
 use Rattle.words.specs.Binary32.{decimal}
 use Rattle.lists.specs.Lists.{same}
 use Rattle.score.specs.Rows.{note, timbre, restart}
 use Rattle.score.specs.Limits.{float_to, limit, row_within}
-use Rattle.reader.specs.declared.ReadAnswer.TheVariants.{Read}
-use Rattle.score.specs.Numbers.{refusal}
+use Rattle.score.specs.declared.refusal.Refusal.TheVariants.{Names, Rows}
 use Rattle.text.specs.Text.{bytes, split, lines_of, column_of}
 use Rattle.names.specs.Sources.{sources_of, each_readable, column_count, each_once, holds_names}
 use Rattle.text.specs.Text.{is_digit, digit_of, each_digit, is_word, followed_by, word_of, each_word}
-use Rattle.values.specs.Lines.{holds_words, row_of, rows_of, line_number}
-use Rattle.reader.specs.Reading.{outcome, test_lines, test_text, text_rows, refuse, count_number, settle, read_text, score_table, read_of, edit_table, read_edits_of}
+use Rattle.values.specs.Lines.{holds_words, row_of, rows_of, test_line}
+use Rattle.reader.specs.Reading.{outcome, test_lines, test_text, text_rows, refuse, test_count, settle, read_text, score_table, read_of, edit_table, read_edits_of}
 
 -- "42f00000 is note 120"; "3f800000 passes as timbre, 3f800001 gives 9"; "-0 passes, NaN doesn't"; "restart the whole number 0 or 1"
 pub limits : (limit note 0x42f00000 ≡ true) × (limit note 0x42f00001 ≡ false) × (limit timbre 0x3f800000 ≡ true) × (limit timbre 0x3f800001 ≡ false)
@@ -46,9 +41,9 @@ abbrev one : ℕ
 one = 0x3f800000
 
 -- "empty text gives 10; names alone give 6"; the program's score and edits
-pub texts : (read_of [] lent ≡ refuse (refusal 10 0) lent) × (read_of (bytes "timbre note morph harmonics restart\n") lent ≡ refuse (refusal 6 0) lent)
-    × (read_of score lent ≡ outcome (Read 3) (note60 ∷ 0 ∷ 0 ∷ 0 ∷ 1 ∷ note60 ∷ half ∷ 0 ∷ 0 ∷ 0 ∷ note60 ∷ half ∷ 0 ∷ 0 ∷ 1 ∷ 7 ∷ 7 ∷ 7 ∷ 7 ∷ []))
-    × (read_edits_of edits lent ≡ outcome (Read 3) (1 ∷ note60 ∷ one ∷ 0 ∷ 0 ∷ 0 ∷ 0 ∷ note60 ∷ one ∷ 0 ∷ 0 ∷ 1 ∷ 2 ∷ note60 ∷ half ∷ 0 ∷ 0 ∷ 1 ∷ 7 ∷ []))
-unfolding read_of read_edits_of read_text score_table edit_table settle test_text text_rows test_lines line_number count_number split lines_of same column_of sources_of each_readable column_count each_once holds_names
+pub texts : (read_of [] lent ≡ refuse Names lent) × (read_of (bytes "timbre note morph harmonics restart\n") lent ≡ refuse Rows lent)
+    × (read_of score lent ≡ outcome (Ok 3) (note60 ∷ 0 ∷ 0 ∷ 0 ∷ 1 ∷ note60 ∷ half ∷ 0 ∷ 0 ∷ 0 ∷ note60 ∷ half ∷ 0 ∷ 0 ∷ 1 ∷ 7 ∷ 7 ∷ 7 ∷ 7 ∷ []))
+    × (read_edits_of edits lent ≡ outcome (Ok 3) (1 ∷ note60 ∷ one ∷ 0 ∷ 0 ∷ 0 ∷ 0 ∷ note60 ∷ one ∷ 0 ∷ 0 ∷ 1 ∷ 2 ∷ note60 ∷ half ∷ 0 ∷ 0 ∷ 1 ∷ 7 ∷ []))
+unfolding read_of read_edits_of read_text score_table edit_table settle test_text text_rows test_lines test_line test_count split lines_of same column_of sources_of each_readable column_count each_once holds_names
     is_digit digit_of each_digit is_word followed_by word_of each_word holds_words row_of rows_of row_within limit float_to decimal of_bits le
 texts = (refl, refl, refl, refl)

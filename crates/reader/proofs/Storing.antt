@@ -1,44 +1,23 @@
 -- Rows stored one after the other: what is stored and what the lines that are left give is all, and the words past all rows stay.
-use mathlib.Core.Path.{◌≡◌, refl, sym, ap, ◌∙◌}
-use mathlib.Core.Logic.{⊎_elim}
-use mathlib.Core.Bool.{Bool, true, false, cond}
-use mathlib.Core.List.{List, [], ◌∷◌, ◌++◌, append-nil, append_assoc}
-use Prim.Native.Nat.{ℕ, suc, ◌+◌, ◌-◌, ◌*◌, ◌≤◌, ◌<◌}
-use native.Mathlib.Nat.{mul-suc, mul-le-mul_left}
-use native.Mathlib.Numerals.{add-one}
-use native.Mathlib.Omega.{arith}
-use borrow.Author.Tests.{eqb-true}
-use lib.Dec.{eqb}
-use lib.ListN.{length, take, drop, length-append, length-drop, take-append-drop}
-use lib.Seq.{length-take-le, take_at, drop_at, drop-drop}
-use Rattle.reader.specs.declared.ReadAnswer.TheVariants.{Read}
+use Rattle.std.proofs.Common.{◌≡◌, refl, sym, ap, ◌∙◌, ⊎_elim, Bool, true, false, List, [], ◌∷◌, ◌++◌, append-nil, append_assoc, ℕ, suc, ◌+◌, ◌-◌, ◌*◌, ◌≤◌, ◌<◌, mul-suc, mul-le-mul_left, add-one, arith, length, take, drop, length-append, length-drop, take-append-drop, length-take-le, take_at, drop_at, drop-drop, Ok}
+use Rattle.score.specs.Numbers.{accepted}
 use Rattle.names.specs.declared.Source.{Source}
-use Rattle.text.specs.Text.{Line, lines_of, rest_of}
-use Rattle.values.specs.Lines.{holds_words, row_of, rows_of, line_number}
+use Rattle.text.specs.Text.{Line, lines_of}
+use Rattle.values.specs.Lines.{holds_words, row_of, rows_of, test_line}
 use Rattle.values.specs.Inner.{field_bytes, line_at}
-use Rattle.reader.specs.Reading.{refused_at, test_lines}
+use Rattle.reader.specs.Reading.{test_lines}
 use Rattle.lists.proofs.Cases.{le_or_lt}
 use Rattle.text.proofs.FirstLine.{some_line}
 use Rattle.values.proofs.Values.{value, next_line, line_fits}
-use Rattle.reader.proofs.Testing.{tested_from, number_at, first_tested, none_left, line_passes}
-
--- ---- an answer is a number of rows or a refusal
-pub same_count : (a b : ℕ) → Read a ≡ Read b → a ≡ b
-same_count a b e = cc
-
-pub not_both : (a b n : ℕ) → refused_at a b ≡ Read n → ⊥
-not_both a b n e = let z : ◌≡◌ {A = ℕ} 0 1 = cc in omega arith
+use Rattle.reader.proofs.Testing.{same_count, both_pass, tested_from, test_at, first_tested, none_left, line_passes}
 
 -- each line counts
-pub counted : (n : ℕ) (sources : List Source) (score : Bool) (lines : List Line) (at c : ℕ) → test_lines n sources score at lines ≡ Read c → c ≡ at + length lines
+pub counted : (n : ℕ) (sources : List Source) (score : Bool) (lines : List Line) (at c : ℕ) → test_lines n sources score at lines ≡ Ok c → c ≡ at + length lines
 unfolding test_lines
 counted n sources score [] at c e = let q = same_count at c e in omega arith
-counted n sources score (line ∷ lines) at c e = go (eqb (line_number n sources score line) 0) e (counted n sources score lines (suc at) c)
-  where
-    go : (b : Bool) → cond b (test_lines n sources score (suc at) lines) (refused_at (line_number n sources score line) at) ≡ Read c
-        → (test_lines n sources score (suc at) lines ≡ Read c → c ≡ suc at + length lines) → c ≡ at + suc (length lines)
-    go true e f = let q = f e in omega arith
-    go false e f = absurd (not_both (line_number n sources score line) at c e)
+counted n sources score (line ∷ lines) at c e =
+    let p = both_pass (test_line n sources score at line) (test_lines n sources score (suc at) lines) c e in
+    omega (arith, counted n sources score lines (suc at) c p.1)
 
 no_more : (lines : List Line) → length lines ≡ 0 → lines ≡ []
 no_more [] e = refl
@@ -50,12 +29,12 @@ pub record Stored (n width : ℕ) (sources : List Source) (text : List ℕ) (nex
   pub upto : k ≤ lines
   pub place : base ≡ width * k
   pub long : length rows ≡ length rows₀
-  pub tested : tested_from n sources false text from k ≡ Read lines
+  pub tested : tested_from n sources false text from k ≡ Ok lines
   pub stored : take base rows ++ rows_of sources (lines_of (drop from text)) ≡ rows_of sources (lines_of (drop next text))
   pub kept : drop (width * lines) rows ≡ drop (width * lines) rows₀
 
 module _ (n width : ℕ) (sources : List Source) (text : List ℕ) (next lines : ℕ) (rows₀ : List ℕ) where
-  pub stores : next ≤ length text → tested_from n sources false text next 0 ≡ Read lines → Stored n width sources text next lines rows₀ rows₀ next 0 0
+  pub stores : next ≤ length text → tested_from n sources false text next 0 ≡ Ok lines → Stored n width sources text next lines rows₀ rows₀ next 0 0
   stores i t = record { inside = i; upto = omega arith; place = omega arith; long = refl; tested = t; stored = refl; kept = refl }
 
   pub all_stored : (rows : List ℕ) (from base k : ℕ) → Stored n width sources text next lines rows₀ rows from base k → lines ≤ k
@@ -79,20 +58,14 @@ module _ (n width : ℕ) (sources : List Source) (text : List ℕ) (next lines :
           (λ l. l)
           (le_or_lt (length text) from)
 
-      pub number : number_at n sources false text from ≡ 0
-      number = go (eqb (number_at n sources false text from) 0) refl (sym (first_tested n sources false text from k line_there) ∙ s.tested)
-        where
-          go : (b : Bool) → eqb (number_at n sources false text from) 0 ≡ b
-              → cond b (test_lines n sources false (suc k) (rest_of (lines_of (drop from text)))) (refused_at (number_at n sources false text from) k) ≡ Read lines
-              → number_at n sources false text from ≡ 0
-          go true e q = eqb-true (number_at n sources false text from) 0 e
-          go false e q = absurd (not_both (number_at n sources false text from) k lines q)
+      pub passes : test_at n sources false text from k ≡ accepted
+      passes = (both_pass _ _ lines (sym (first_tested n sources false text from k line_there) ∙ s.tested)).0
 
       pub words_there : holds_words n (line_at text from) ≡ true
-      words_there = value n sources (line_at text from) false number
+      words_there = value n sources k (line_at text from) false passes
 
       pub next_fits : from + n * field_bytes ≤ length text
-      next_fits = line_fits n sources false text from some number s.inside
+      next_fits = line_fits n sources false k text from some passes s.inside
 
       pub part_fits : base + width ≤ length rows
       part_fits = omega (arith, s.long, s.place, mul-suc width k, mul-le-mul_left width h)
@@ -101,7 +74,7 @@ module _ (n width : ℕ) (sources : List Source) (text : List ℕ) (next lines :
       unfolding rows_of
       rows_there =
           ap (rows_of sources) (some_line (drop from text) (omega (arith, line_there, length-drop from text)))
-          ∙ ap (λ (ls : List Line). row_of sources (line_at text from) ++ rows_of sources ls) (next_line n sources false text from some number)
+          ∙ ap (λ (ls : List Line). row_of sources (line_at text from) ++ rows_of sources ls) (next_line n sources false k text from some passes)
 
       span : base + width - base ≡ width
       span = omega arith
@@ -148,7 +121,7 @@ module _ (n width : ℕ) (sources : List Source) (text : List ℕ) (next lines :
               upto = omega arith;
               place = rw (add-one, mul-suc width k) (omega (arith, s.place));
               long = rw (sym regroup) (same_long ∙ s.long);
-              tested = sym (line_passes n sources false text from some number k line_there) ∙ s.tested;
+              tested = sym (line_passes n sources false text from k line_there some passes) ∙ s.tested;
               stored = rw (sym regroup) now_stored;
               kept = rest_kept;
             })

@@ -1,39 +1,37 @@
 -- Document 01, "Calls and their numbers" for the reader, and "The program `retake`" for the edits text: the refusals in their order, and what a call leaves.
-use Rattle.std.specs.Prelude.{ℕ, suc, ◌*◌, ◌≤◌, ◌<◌, ◌≡◌, Bool, true, false, ◌&&◌, ◌||◌, cond, List, [], ◌∷◌, ◌++◌, map, length, drop, ltb, eqb}
+use Rattle.std.proofs.Common.{ℕ, suc, ◌*◌, ◌≤◌, ◌<◌, ◌≡◌, Bool, true, false, ◌&&◌, ◌||◌, cond, List, [], ◌∷◌, ◌++◌, map, length, drop, ltb, eqb, Result, Ok, Err}
+use Rattle.std.specs.Result.{result_and}
 use Rattle.score.specs.declared.refusal.Refusal.{Refusal}
-use Rattle.reader.specs.declared.ReadAnswer.{ReadAnswer}
-use Rattle.reader.specs.declared.ReadAnswer.TheVariants.{Read, Refused}
-use Rattle.score.specs.Numbers.{refusal, accepted, rows_number, names_number, space_number, Result, done, refused}
+use Rattle.score.specs.declared.refusal.Refusal.TheVariants.{Rows, Names, Space}
+use Rattle.score.specs.Numbers.{Tested, accepted, CallResult, done, refused}
 use Rattle.score.specs.Rows.{row_words, most_rows, Name, note, timbre, morph, harmonics, restart, row_names}
 use Rattle.score.specs.Limits.{limit_refusal}
 use Rattle.names.specs.declared.Source.{Source}
 use Rattle.names.specs.declared.Source.TheVariants.{Missing}
 use Rattle.text.specs.Text.{bytes, Line, lines_of, first_of, rest_of}
 use Rattle.names.specs.Sources.{Entry, holds_names, names_on, sources_by}
-use Rattle.values.specs.Lines.{rows_of, line_number}
+use Rattle.values.specs.Lines.{rows_of, test_line}
 
--- "Result of a refusal: number and place."
-abbrev pub refused_at : ℕ → ℕ → ReadAnswer
-refused_at number place = Refused (refusal number place)
+-- What reading answers: the number of rows, or a refusal.
+abbrev pub Answer : Type 0
+Answer = Result ℕ Refusal
 
 -- "Success carries the row count (reader)."
-unfoldable pub result_of : ReadAnswer → Result
-result_of (Read count) = done (count ∷ [])
-result_of (Refused r) = refused r
+unfoldable pub result_of : Answer → CallResult
+result_of (Ok count) = done (count ∷ [])
+result_of (Err r) = refused r
 
 -- ---- a text of any table of names
 
 -- "line after line": lines of values, the first of them number `at`. Success carries how many there are.
-unfoldable pub test_lines : ℕ → List Source → Bool → ℕ → List Line → ReadAnswer
-test_lines n sources score at [] = Read at
-test_lines n sources score at (line ∷ lines) =
-    let number = line_number n sources score line in
-    cond (eqb number 0) (test_lines n sources score (suc at) lines) (refused_at number at)
+unfoldable pub test_lines : ℕ → List Source → Bool → ℕ → List Line → Answer
+test_lines n sources score at [] = Ok at
+test_lines n sources score at (line ∷ lines) = result_and (test_line n sources score at line) (test_lines n sources score (suc at) lines)
 
 -- "The reader tests 10; then line after line": the line of names, and then a word for each of its names on every line.
-unfoldable pub test_text : List Entry → Bool → List Line → ReadAnswer
+unfoldable pub test_text : List Entry → Bool → List Line → Answer
 test_text table score lines =
-    cond (holds_names table (first_of lines)) (test_lines (names_on lines) (sources_by table lines) score 0 (rest_of lines)) (refused_at names_number 0)
+    cond (holds_names table (first_of lines)) (test_lines (names_on lines) (sources_by table lines) score 0 (rest_of lines)) (Err Names)
 
 -- The rows of a text, each in the order of the table.
 unfoldable pub text_rows : List Entry → List Line → List ℕ
@@ -43,28 +41,31 @@ text_rows table lines = rows_of (sources_by table lines) (rest_of lines)
 
 -- A call's answer, and the lent row words as it leaves them.
 pub record Outcome : Type 0 where
-  pub answer : ReadAnswer
+  pub answer : Answer
   pub rows : List ℕ
 
-abbrev pub outcome : ReadAnswer → List ℕ → Outcome
+abbrev pub outcome : Answer → List ℕ → Outcome
 outcome answer rows = record { answer = answer; rows = rows }
 
 -- "a refused call changes no lent buffer"
 abbrev pub refuse : Refusal → List ℕ → Outcome
-refuse r lent = outcome (Refused r) lent
+refuse r lent = outcome (Err r) lent
 
--- "then 6; then 12": the number that refuses so many rows of so many words, where `lent` words are lent, 0 if none does. 6 is tested in a
--- score alone.
-unfoldable pub count_number : Bool → ℕ → ℕ → ℕ → ℕ
-count_number score words count lent =
-    cond (score && (eqb count 0 || ltb most_rows count)) rows_number (cond (ltb lent (words * count)) space_number 0)
+-- What a call comes to that a test allows.
+abbrev pub allowed : Tested → Outcome → List ℕ → Outcome
+allowed (Ok _) left lent = left
+allowed (Err r) left lent = refuse r lent
+
+-- "then 6; then 12": the test of so many rows of so many words, where `lent` words are lent. 6 is tested in a score alone.
+unfoldable pub test_count : Bool → ℕ → ℕ → ℕ → Tested
+test_count score words count lent =
+    cond (score && (eqb count 0 || ltb most_rows count)) (Err Rows) (cond (ltb lent (words * count)) (Err Space) accepted)
 
 -- What is left once the lines are tested: "Lent row words past the score keep what they had."
-unfoldable pub settle : Bool → ℕ → ReadAnswer → List ℕ → List ℕ → Outcome
-settle score words (Refused r) rows lent = refuse r lent
-settle score words (Read count) rows lent =
-    let number = count_number score words count (length lent) in
-    cond (eqb number 0) (outcome (Read count) (rows ++ drop (words * count) lent)) (refuse (refusal number 0) lent)
+unfoldable pub settle : Bool → ℕ → Answer → List ℕ → List ℕ → Outcome
+settle score words (Err r) rows lent = refuse r lent
+settle score words (Ok count) rows lent =
+    allowed (test_count score words count (length lent)) (outcome (Ok count) (rows ++ drop (words * count) lent)) lent
 
 -- "The reader tests 10; then line after line 11 before 9; then 6; then 12": reading a text, as a score or not.
 unfoldable pub read_text : Bool → List Entry → List ℕ → List ℕ → Outcome

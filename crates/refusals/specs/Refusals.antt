@@ -1,15 +1,18 @@
 -- Document 01, "Calls and their numbers", and document 02's changes: what the calls over a score and a take refuse, in the table's order.
-use Rattle.std.specs.Prelude.{ℕ, ◌+◌, ◌*◌, List, Bool, false, cond, not, ◌||◌, eqb, ltb, length}
+use Rattle.std.specs.Prelude.{ℕ, ◌+◌, ◌*◌, List, Bool, false, cond, not, ◌||◌, eqb, ltb, length, Err}
+use Rattle.std.specs.Result.{result_and}
 use Rattle.utils.specs.Rendered.{most_frames}
 use Rattle.oscillator.specs.Bank.{bank_length}
 use Rattle.terrain.specs.Heights.{map_length}
 use Rattle.voice.specs.Voice.{map_instrument, oscillator_instrument, kept_count}
 use Rattle.score.specs.Rows.{row_words, wrong_rows}
 use Rattle.score.specs.Limits.{limit_refusal}
-use Rattle.score.specs.Numbers.{instrument_number, rate_number, block_number, bank_number, map_number, rows_number, take_number, position_number, full_number, refusal}
-use Rattle.score.specs.declared.refusal.Refusal.{Refusal}
+use Rattle.score.specs.Numbers.{Tested, accepted}
+use Rattle.score.specs.declared.refusal.Refusal.TheVariants as refusal
 use Rattle.rows.specs.Rows.{Setup, Take}
-use Rattle.refusals.specs.Calls.{Call, render, edit, insert, remove, count_after, rows_after, position, least_count, largest_count}
+use Rattle.refusals.specs.declared.Call.{Call}
+use Rattle.refusals.specs.declared.Call.TheVariants.{Render, Edit, Insert, Remove}
+use Rattle.refusals.specs.Calls.{count_after, rows_after, position, least_count, largest_count}
 
 -- 1: "not 0 wavetable, 1 terrain, 2 terrain with map"; "Number 1 now means above 3"
 abbrev pub wrong_instrument : ℕ → Bool
@@ -48,51 +51,45 @@ short_take n frames out aux kept = ltb out (n * frames) || (ltb aux (n * frames)
 
 -- 8: "edited row not below the row count"; "An insertion's position may equal the count; a higher one gives 8."
 unfoldable pub wrong_position : ℕ → Call → Bool
-wrong_position n render = false
-wrong_position n (edit k row) = not (ltb k n)
-wrong_position n (insert p row) = ltb n p
-wrong_position n (remove p) = not (ltb p n)
+wrong_position n Render = false
+wrong_position n (Edit k row) = not (ltb k n)
+wrong_position n (Insert p row) = ltb n p
+wrong_position n (Remove p) = not (ltb p n)
 
 -- 13: "full: an insertion with no spare place in some buffer", a place for one row more
 abbrev pub no_spare : ℕ → ℕ → ℕ → ℕ → ℕ → ℕ → Bool
 no_spare n frames rows out aux kept = ltb rows ((n + 1) * row_words) || short_take (n + 1) frames out aux kept
 
 unfoldable pub full : Setup → ℕ → List ℕ → Take → Call → Bool
-full s n rows t render = false
-full s n rows t (edit k row) = false
-full s n rows t (insert p row) = no_spare n s.frames (length rows) (length t.out) (length t.aux) (length t.kept)
-full s n rows t (remove p) = false
+full s n rows t Render = false
+full s n rows t (Edit k row) = false
+full s n rows t (Insert p row) = no_spare n s.frames (length rows) (length t.out) (length t.aux) (length t.kept)
+full s n rows t (Remove p) = false
 
 -- ---- The table, in its order: 1 to 8, 13, 9.
 
--- The number of the first of 1 to 5 that holds, 0 where none does. The bank and the map by their lengths.
-unfoldable pub settings_number : ℕ → ℕ → ℕ → ℕ → ℕ → ℕ
-settings_number instrument rate frames bank map =
-    cond (wrong_instrument instrument) instrument_number
-    (cond (wrong_rate rate) rate_number
-    (cond (wrong_block frames) block_number
-    (cond (wrong_bank bank) bank_number
-    (cond (wrong_map instrument map) map_number 0))))
+-- The first of 1 to 5 that holds.
+unfoldable pub settings_refusal : Setup → Tested
+settings_refusal s =
+    cond (wrong_instrument s.instrument) (Err refusal.Instrument)
+    (cond (wrong_rate s.rate) (Err refusal.Rate)
+    (cond (wrong_block s.frames) (Err refusal.Block)
+    (cond (wrong_bank (length s.bank)) (Err refusal.Bank)
+    (cond (wrong_map s.instrument (length s.map)) (Err refusal.Map) accepted))))
 
--- The same of 6 and 7, by the lengths of the row words and of the take.
-unfoldable pub lengths_number : ℕ → ℕ → ℕ → ℕ → ℕ → ℕ → ℕ → ℕ → ℕ
-lengths_number least largest frames n rows out aux kept = cond (wrong_rows least largest n rows) rows_number (cond (short_take n frames out aux kept) take_number 0)
-
--- The same of 1 to 7.
-unfoldable pub lent_number : Setup → ℕ → ℕ → ℕ → List ℕ → Take → ℕ
-lent_number s least largest n rows t =
-    let number = settings_number s.instrument s.rate s.frames (length s.bank) (length s.map) in
-    cond (eqb number 0) (lengths_number least largest s.frames n (length rows) (length t.out) (length t.aux) (length t.kept)) number
+-- The first of 6 and 7 that holds, for a call on so many rows.
+unfoldable pub lengths_refusal : Setup → ℕ → List ℕ → Take → Call → Tested
+lengths_refusal s n rows t c =
+    cond (wrong_rows (least_count c) (largest_count c) n (length rows)) (Err refusal.Rows)
+    (cond (short_take n s.frames (length t.out) (length t.aux) (length t.kept)) (Err refusal.Take) accepted)
 
 -- 8, with the position as its place; then 13, "tested after 8"; then 9, which "reads the resulting score".
-unfoldable pub score_refusal : Setup → ℕ → List ℕ → Take → Call → Refusal
+unfoldable pub score_refusal : Setup → ℕ → List ℕ → Take → Call → Tested
 score_refusal s n rows t c =
-    cond (wrong_position n c) (refusal position_number (position c))
-    (cond (full s n rows t c) (refusal full_number 0)
+    cond (wrong_position n c) (Err (refusal.Position (position c)))
+    (cond (full s n rows t c) (Err refusal.Full)
     (limit_refusal (count_after n c) (rows_after n rows c)))
 
--- What a call refuses, handed a count of n: of 1 to 7 with place 0, then what is tested next.
-unfoldable pub refusal_of : Setup → ℕ → List ℕ → Take → Call → Refusal
-refusal_of s n rows t c =
-    let number = lent_number s (least_count c) (largest_count c) n rows t in
-    cond (eqb number 0) (score_refusal s n rows t c) (refusal number 0)
+-- What a call refuses, handed a count of n: the first refusal of these tests.
+unfoldable pub refusal_of : Setup → ℕ → List ℕ → Take → Call → Tested
+refusal_of s n rows t c = result_and (settings_refusal s) (result_and (lengths_refusal s n rows t c) (score_refusal s n rows t c))

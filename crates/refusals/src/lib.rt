@@ -1,17 +1,20 @@
 // What the calls refuse, by number and place.
 #![tactic(auto)]
 
-ghost use Rattle.std.specs.Prelude.{◌≡◌, ◌≤◌, ◌<◌};
+ghost use Rattle.std.specs.Prelude.{◌≡◌, ◌*◌, ◌≤◌, false, length};
 ghost use Rattle.utils.specs.Rendered.{most_frames};
-ghost use Rattle.score.specs.Rows.{most_rows};
-ghost use Rattle.score.specs.Numbers.{refusal, position_number};
-ghost use Rattle.rows.specs.Rows.{setup, lent};
-ghost use Rattle.refusals.specs.Calls.{render, edit, insert, remove};
-ghost use Rattle.refusals.specs.Refusals.{map_length_of, settings_number, short_take, lengths_number, lent_number, no_spare, refusal_of};
+ghost use Rattle.score.specs.Rows.{row_words, most_rows};
+ghost use Rattle.score.specs.Limits.{limit_refusal};
+ghost use Rattle.rows.specs.Rows.{setup_by, lent};
+ghost use Rattle.refusals.specs.Calls.{count_after, rows_after, position, least_count, largest_count};
+ghost use Rattle.refusals.specs.Refusals.{map_length_of, wrong_position, full, short_take, settings_refusal, lengths_refusal, score_refusal, refusal_of};
 
 use oscillator::bank::BANK_LENGTH;
-use rows::Settings;
-use score::refusal::{BANK, BLOCK, FULL, INSTRUMENT, MAP, POSITION, RATE, ROWS, Refusal, TAKE};
+use rows::Patch;
+use score::limits::{
+    within_limits, within_limits_inserted, within_limits_removed, within_limits_with,
+};
+use score::refusal::Refusal;
 use score::rows::{MOST_ROWS, ROW_WORDS, wrong_rows};
 use terrain::MAP_LENGTH;
 use utils::engine::MOST_FRAMES;
@@ -20,6 +23,80 @@ use voice::{KEPT_WORDS, OSCILLATOR, TERRAIN_WITH_MAP};
 const LOWEST_RATE: u32 = 32000;
 
 const HIGHEST_RATE: u32 = 192000;
+
+// A call over a score and a take: whole rendering, other words for a row, a row put in, or a row taken out.
+#[derive(Clone, Copy)]
+pub enum Call {
+    Render,
+    Edit(usize, [u32; ROW_WORDS]),
+    Insert(usize, [u32; ROW_WORDS]),
+    Remove(usize),
+}
+
+impl Call {
+    // The fewest rows that it takes.
+    #[tactic(auto, unfolding(crate::specs::Calls::least_count))]
+    fn least_count(self) -> usize
+        ensures { result ≡ least_count self }
+    {
+        match self {
+            Call::Remove(_) => 2,
+            _ => 1,
+        }
+    }
+
+    // The most rows that it takes.
+    #[tactic(auto, unfolding(crate::specs::Calls::largest_count))]
+    fn largest_count(self) -> usize
+        ensures value { result ≡ largest_count self }
+        ensures most { result ≤ most_rows }
+    {
+        match self {
+            Call::Insert(_, _) => MOST_ROWS - 1,
+            _ => MOST_ROWS,
+        }
+    }
+
+    // The row that it is about.
+    #[tactic(auto, unfolding(crate::specs::Calls::position))]
+    fn position(self) -> usize
+        ensures { result ≡ position self }
+    {
+        match self {
+            Call::Render => 0,
+            Call::Edit(k, _) => k,
+            Call::Insert(p, _) | Call::Remove(p) => p,
+        }
+    }
+
+    // Whether it is about a row that so many rows do not have.
+    #[tactic(auto, unfolding(crate::specs::Refusals::wrong_position))]
+    fn wrong_position(self, count: usize) -> bool
+        ensures { result ≡ wrong_position count self }
+    {
+        match self {
+            Call::Render => false,
+            Call::Edit(k, _) => k >= count,
+            Call::Insert(p, _) => p > count,
+            Call::Remove(p) => p >= count,
+        }
+    }
+
+    // Whether a score's words are within their limits once the call has changed it.
+    #[tactic(auto, unfolding(crate::specs::Calls::count_after, crate::specs::Calls::rows_after, crate::specs::Refusals::wrong_position))]
+    fn within_limits(self, rows: &[u32], count: usize) -> Result<(), Refusal>
+        requires position { wrong_position count self ≡ false }
+        requires rows_room { (count_after count self * row_words ≤ length rows.now) × (count * row_words ≤ length rows.now) }
+        ensures { result ≡ limit_refusal (count_after count self) (rows_after count rows.now self) }
+    {
+        match self {
+            Call::Render => within_limits(rows, count),
+            Call::Edit(k, row) => within_limits_with(rows, count, k, row),
+            Call::Insert(p, row) => within_limits_inserted(rows, count, p, row),
+            Call::Remove(p) => within_limits_removed(rows, count, p),
+        }
+    }
+}
 
 // The length of an instrument's map.
 fn map_length(instrument: u32) -> usize
@@ -32,259 +109,106 @@ fn map_length(instrument: u32) -> usize
     }
 }
 
-// The number of the first of 1 to 5 that holds, 0 where none does. The bank and the map by their lengths.
-fn settings_number(instrument: u32, rate: u32, frames: usize, bank: usize, map: usize) -> u32
-    ensures { result ≡ settings_number instrument rate frames bank map }
+// The first of 1 to 5 that holds.
+#[tactic(auto, unfolding(crate::specs::Refusals::settings_refusal))]
+fn settings_refusal(patch: Patch<'_>) -> Result<(), Refusal>
+    ensures { result ≡ settings_refusal (setup_by patch.entry) }
 {
+    let instrument = patch.settings.instrument;
+    let rate = patch.settings.rate;
+    let frames = patch.settings.frames;
     if instrument > OSCILLATOR {
-        return INSTRUMENT;
+        return Err(Refusal::Instrument);
     }
-    if rate < LOWEST_RATE {
-        return RATE;
+    if rate < LOWEST_RATE || rate > HIGHEST_RATE {
+        return Err(Refusal::Rate);
     }
-    if rate > HIGHEST_RATE {
-        return RATE;
+    if frames == 0 || frames > MOST_FRAMES {
+        return Err(Refusal::Block);
     }
-    if frames == 0 {
-        return BLOCK;
+    if patch.bank.len() != BANK_LENGTH {
+        return Err(Refusal::Bank);
     }
-    if frames > MOST_FRAMES {
-        return BLOCK;
+    if patch.map.len() != map_length(instrument) {
+        return Err(Refusal::Map);
     }
-    if bank != BANK_LENGTH {
-        return BANK;
-    }
-    if map != map_length(instrument) {
-        return MAP;
-    }
-    0
+    Ok(())
 }
 
 // Whether a take is too short for n rows.
-fn short_take(n: usize, frames: usize, out: usize, aux: usize, kept: usize) -> bool
+fn short_take(n: usize, frames: usize, out: &[u32], aux: &[u32], kept: &[u32]) -> bool
     requires { (n ≤ most_rows) × (frames ≤ most_frames) }
-    ensures { result ≡ short_take n frames out aux kept }
+    ensures { result ≡ short_take n frames (length out.now) (length aux.now) (length kept.now) }
 {
-    if out < n * frames {
-        return true;
-    }
-    if aux < n * frames {
-        return true;
-    }
-    kept < n * KEPT_WORDS
+    out.len() < n * frames || aux.len() < n * frames || kept.len() < n * KEPT_WORDS
 }
 
-// The number of the first of 6 and 7 that holds, 0 where none does, where a call takes counts from `least` to `largest`. The lent words by their
-// lengths.
-fn lengths_number(
-    least: usize,
-    largest: usize,
-    frames: usize,
-    count: usize,
-    rows: usize,
-    out: usize,
-    aux: usize,
-    kept: usize,
-) -> u32
-    requires { (largest ≤ most_rows) × (frames ≤ most_frames) }
-    ensures { result ≡ lengths_number least largest frames count rows out aux kept }
-{
-    if wrong_rows(least, largest, count, rows) {
-        return ROWS;
-    }
-    let short = short_take(count, frames, out, aux, kept);
-    if short {
-        return TAKE;
-    }
-    0
-}
-
-// The same of 1 to 7.
-fn lent_number(
-    settings: Settings,
-    bank: &[i16],
-    map: &[u8],
-    least: usize,
-    largest: usize,
+// The first of 6 and 7 that holds.
+#[tactic(auto, unfolding(crate::specs::Refusals::lengths_refusal))]
+fn lengths_refusal(
+    patch: Patch<'_>,
     rows: &[u32],
     count: usize,
     out: &[u32],
     aux: &[u32],
     kept: &[u32],
-) -> u32
-    requires { largest ≤ most_rows }
-    ensures { result
-        ≡ lent_number (setup settings bank.now map.now) least largest count rows.now
-        (lent out.now aux.now kept.now) }
+    call: Call,
+) -> Result<(), Refusal>
+    requires { patch.settings.frames ≤ most_frames }
+    ensures { result ≡ lengths_refusal (setup_by patch.entry) count rows.now (lent out.now aux.now kept.now) call }
 {
-    let frames = settings.frames;
-    let number = settings_number(
-        settings.instrument,
-        settings.rate,
-        frames,
-        bank.len(),
-        map.len(),
-    );
-    if number != 0 {
-        return number;
+    if wrong_rows(call.least_count(), call.largest_count(), count, rows.len()) {
+        return Err(Refusal::Rows);
     }
-    lengths_number(
-        least,
-        largest,
-        frames,
-        count,
-        rows.len(),
-        out.len(),
-        aux.len(),
-        kept.len(),
-    )
-}
-
-// A refusal of one of the numbers that have place 0.
-fn nowhere(number: u32) -> Refusal
-    ensures { result ≡ refusal number 0 }
-{
-    Refusal { number, place: 0 }
-}
-
-// The refusal of a position.
-fn at_position(position: usize) -> Refusal
-    ensures { result ≡ refusal position_number position }
-{
-    Refusal {
-        number: POSITION,
-        place: position,
+    if short_take(count, patch.settings.frames, out, aux, kept) {
+        return Err(Refusal::Take);
     }
+    Ok(())
 }
 
-// Whether some buffer has no place for one row more. The lent words by their lengths.
-fn no_spare(count: usize, frames: usize, rows: usize, out: usize, aux: usize, kept: usize) -> bool
-    requires { (count < most_rows) × (frames ≤ most_frames) }
-    ensures { result ≡ no_spare count frames rows out aux kept }
-{
-    let more = count + 1;
-    if rows < more * ROW_WORDS {
-        return true;
-    }
-    short_take(more, frames, out, aux, kept)
-}
-
-// What whole rendering refuses.
-pub fn render_refusal(
-    settings: Settings,
-    bank: &[i16],
-    map: &[u8],
+// Whether a call puts a row in, and some buffer has no place for one row more.
+#[tactic(auto, unfolding(crate::specs::Refusals::full, crate::specs::Calls::largest_count))]
+fn full(
+    patch: Patch<'_>,
     rows: &[u32],
     count: usize,
     out: &[u32],
     aux: &[u32],
     kept: &[u32],
-) -> Refusal
-    ensures { result
-        ≡ refusal_of (setup settings bank.now map.now) count rows.now
-        (lent out.now aux.now kept.now) render }
+    call: Call,
+) -> bool
+    requires { (patch.settings.frames ≤ most_frames) × (count ≤ largest_count call) }
+    ensures { result ≡ full (setup_by patch.entry) count rows.now (lent out.now aux.now kept.now) call }
 {
-    let number = lent_number(
-        settings, bank, map, 1, MOST_ROWS, rows, count, out, aux, kept,
-    );
-    if number != 0 {
-        return nowhere(number);
+    match call {
+        Call::Insert(_, _) => {
+            let more = count + 1;
+            rows.len() < more * ROW_WORDS || short_take(more, patch.settings.frames, out, aux, kept)
+        }
+        _ => false,
     }
-    score::limits::limit_refusal(rows, count)
 }
 
-// What an edit of row k refuses.
-pub fn edit_refusal(
-    settings: Settings,
-    bank: &[i16],
-    map: &[u8],
+// What a call refuses: the first refusal of the tests, in the table's order.
+// It reads a take that is lent shared, so its three parts stand apart.
+pub fn check(
+    patch: Patch<'_>,
     rows: &[u32],
     count: usize,
-    k: usize,
-    row: [u32; ROW_WORDS],
     out: &[u32],
     aux: &[u32],
     kept: &[u32],
-) -> Refusal
-    ensures { result
-        ≡ refusal_of (setup settings bank.now map.now) count rows.now
-        (lent out.now aux.now kept.now) (edit k row) }
+    call: Call,
+) -> Result<(), Refusal>
+    ensures { result ≡ refusal_of (setup_by patch.entry) count rows.now (lent out.now aux.now kept.now) call }
 {
-    let number = lent_number(
-        settings, bank, map, 1, MOST_ROWS, rows, count, out, aux, kept,
-    );
-    if number != 0 {
-        return nowhere(number);
+    settings_refusal(patch)?;
+    lengths_refusal(patch, rows, count, out, aux, kept, call)?;
+    if call.wrong_position(count) {
+        return Err(Refusal::Position(call.position()));
     }
-    if k >= count {
-        return at_position(k);
+    if full(patch, rows, count, out, aux, kept, call) {
+        return Err(Refusal::Full);
     }
-    score::limits::limit_refusal_with(rows, count, k, row)
-}
-
-// What an insertion as row p refuses.
-pub fn insert_refusal(
-    settings: Settings,
-    bank: &[i16],
-    map: &[u8],
-    rows: &[u32],
-    count: usize,
-    p: usize,
-    row: [u32; ROW_WORDS],
-    out: &[u32],
-    aux: &[u32],
-    kept: &[u32],
-) -> Refusal
-    ensures { result
-        ≡ refusal_of (setup settings bank.now map.now) count rows.now
-        (lent out.now aux.now kept.now) (insert p row) }
-{
-    let largest = MOST_ROWS - 1;
-    let number = lent_number(settings, bank, map, 1, largest, rows, count, out, aux, kept);
-    if number != 0 {
-        return nowhere(number);
-    }
-    if p > count {
-        return at_position(p);
-    }
-    let full = no_spare(
-        count,
-        settings.frames,
-        rows.len(),
-        out.len(),
-        aux.len(),
-        kept.len(),
-    );
-    if full {
-        return nowhere(FULL);
-    }
-    score::limits::limit_refusal_inserted(rows, count, p, row)
-}
-
-// What a removal of row p refuses.
-pub fn remove_refusal(
-    settings: Settings,
-    bank: &[i16],
-    map: &[u8],
-    rows: &[u32],
-    count: usize,
-    p: usize,
-    out: &[u32],
-    aux: &[u32],
-    kept: &[u32],
-) -> Refusal
-    ensures { result
-        ≡ refusal_of (setup settings bank.now map.now) count rows.now
-        (lent out.now aux.now kept.now) (remove p) }
-{
-    let number = lent_number(
-        settings, bank, map, 2, MOST_ROWS, rows, count, out, aux, kept,
-    );
-    if number != 0 {
-        return nowhere(number);
-    }
-    if p >= count {
-        return at_position(p);
-    }
-    score::limits::limit_refusal_removed(rows, count, p)
+    call.within_limits(rows, count)
 }

@@ -6,412 +6,263 @@
 // The bank and the map of a score come from its seed. What is lent has room for more rows than the score has.
 #![tactic(auto)]
 
-ghost use Rattle.std.specs.Prelude.{◌≡◌, ◌+◌, ◌≤◌, ◌<◌};
-
-use rows::Settings;
-use take::Answer;
-use trial::{fill_tables, read_input, say, say_number, say_two, sum_of_words};
-use utils::holds::Holds;
-
-const BANK: usize = 25344;
-
-const MAP: usize = 4096;
+use oscillator::bank::BANK_LENGTH;
+use refusals::Call;
+use rows::{Patch, Report, Settings, Take};
+use score::refusal::Refusal;
+use score::rows::ROW_WORDS;
+use terrain::MAP_LENGTH;
+use trial::{fill_tables, read_input, say, sum_of};
+use voice::{KEPT_WORDS, TERRAIN_WITH_MAP};
 
 const MOST_ROWS: usize = 64;
 
 const MOST_FRAMES: usize = 128;
 
-const MOST_SAMPLES: usize = 8192;
-
 const MOST_CALLS: usize = 8;
 
-const MOST_BYTES: usize = 65536;
-
-// A call's kinds.
-const EDIT: u32 = 0;
-
-const INSERTION: u32 = 1;
-
-const REMOVAL: u32 = 2;
+const MOST_WORDS: usize = 16384;
 
 // What stands in a row word, a sample and a kept word before anything is written there: a NaN's pattern, outside every limit.
 const JUNK: u32 = 0xffffffff;
 
-// What a score is played with, and where its rows start in the file.
+// ---- The input
+
+// The words of the input that are still to be read.
+#[derive(Drop)]
+struct Input<'a> {
+    words: &'a [u32],
+}
+
+impl Input<'_> {
+    // The next word, 0 past the end.
+    fn next(&mut self) -> u32 {
+        match self.words.split_first() {
+            Some((word, rest)) => {
+                self.words = rest;
+                *word
+            }
+            None => 0,
+        }
+    }
+
+    // The next words as a row's.
+    fn next_row(&mut self) -> [u32; ROW_WORDS] {
+        let mut row = [0; ROW_WORDS];
+        for word in &mut row {
+            *word = self.next();
+        }
+        row
+    }
+
+    // The next words as a call.
+    fn next_call(&mut self) -> Call {
+        let kind = self.next();
+        let position = self.next() as usize;
+        let row = self.next_row();
+        match kind {
+            0 => Call::Edit(position, row),
+            1 => Call::Insert(position, row),
+            _ => Call::Remove(position),
+        }
+    }
+
+    // The next words as a score, where it is not too large. Its rows and its calls come behind it.
+    fn next_score(&mut self) -> Option<Score> {
+        let settings = Settings {
+            instrument: self.next(),
+            rate: self.next(),
+            frames: self.next() as usize,
+        };
+        let seed = self.next();
+        let rows = self.next() as usize;
+        let calls = self.next() as usize;
+        if rows > MOST_ROWS || settings.frames > MOST_FRAMES || calls > MOST_CALLS {
+            return None;
+        }
+        Some(Score {
+            settings,
+            seed,
+            rows,
+            calls,
+        })
+    }
+}
+
+// What a score is played with.
 #[derive(Clone, Copy)]
 struct Score {
-    instrument: u32,
-    rate: u32,
-    frames: usize,
+    settings: Settings,
     seed: u32,
     rows: usize,
     calls: usize,
-    at: usize,
 }
 
-// A call after the rendering.
-#[derive(Clone, Copy)]
-struct Call {
-    kind: u32,
-    position: usize,
-    row: [u32; 5],
-}
-
-// A byte as a word.
-fn wide(x: u8) -> u32
-    ensures { result < 256 }
-{
-    x as u32
-}
-
-// The word at byte `at` of a file, low byte first, 0 past its end.
-fn word(file: &[u8], at: usize) -> u32 {
-    if at < file.len() {
-        if 3 < file.len() - at {
-            let low = wide(file[at]) + wide(file[at + 1]) * 256;
-            let high = wide(file[at + 2]) + wide(file[at + 3]) * 256;
-            return low + high * 65536;
-        }
-    }
-    0
-}
-
-// The row words of a score: n from byte `at` of the file on, and junk in the rows to spare.
-fn row_words(file: &[u8], at: usize, n: usize) -> [u32; MOST_ROWS * 5]
-    requires { (at < 1000000) × (n ≤ 320) }
-{
-    let mut words = [JUNK; MOST_ROWS * 5];
-    let mut i = 0;
-    while i < n {
-        words[i] = word(file, at + i * 4);
-        i += 1;
+// The words of some bytes, low byte first, and zeros behind them.
+fn words_of(bytes: &[u8]) -> [u32; MOST_WORDS] {
+    let mut words = [0; MOST_WORDS];
+    for (word, bytes) in words.iter_mut().zip(bytes.chunks_exact(4)) {
+        *word = u32::from_le_bytes(bytes.try_into().unwrap_or_default());
     }
     words
 }
 
-// What was held, and of which kinds.
-fn print_holds(rt: &impl Print, holds: Holds) {
-    say_number(rt, holds.held as u64);
-    say_number(rt, holds.phase as u64);
-    say_number(rt, holds.wave_position as u64);
-    say_number(rt, holds.level as u64);
-    say_number(rt, holds.map as u64);
-    say_number(rt, holds.bank as u64);
+// ---- The lent words
+
+#[derive(Drop)]
+struct Words {
+    rows: [u32; MOST_ROWS * ROW_WORDS],
+    out: [u32; MOST_ROWS * MOST_FRAMES],
+    aux: [u32; MOST_ROWS * MOST_FRAMES],
+    kept: [u32; MOST_ROWS * KEPT_WORDS],
 }
 
-// The numbers of a call's success, or the two of its refusal.
-fn print_answer(rt: &impl Print, answer: Answer) {
-    match answer {
-        Answer::Done(report) => {
-            say_number(rt, report.rows as u64);
-            print_holds(rt, report.holds);
+impl Words {
+    // The rows that come next in the input, and junk in all other words.
+    fn new(input: &mut Input<'_>, rows: usize) -> Self {
+        let mut words = Words {
+            rows: [JUNK; MOST_ROWS * ROW_WORDS],
+            out: [JUNK; MOST_ROWS * MOST_FRAMES],
+            aux: [JUNK; MOST_ROWS * MOST_FRAMES],
+            kept: [JUNK; MOST_ROWS * KEPT_WORDS],
+        };
+        for row in words.rows.chunks_exact_mut(ROW_WORDS).take(rows) {
+            row.copy_from_slice(&input.next_row());
         }
-        Answer::Refused(refusal) => {
-            say_two(rt, b" refused", refusal.number as u64, refusal.place as u64);
+        words
+    }
+
+    // What a call answers, on a score of `count` rows.
+    fn answer(&mut self, patch: Patch<'_>, call: Call, count: usize) -> Result<Report, Refusal> {
+        let rows = &mut self.rows;
+        let take = &mut Take {
+            out: &mut self.out,
+            aux: &mut self.aux,
+            kept: &mut self.kept,
+        };
+        match call {
+            Call::Render => take::render(patch, rows, count, take),
+            Call::Edit(position, row) => take::edit(patch, rows, count, position, row, take),
+            Call::Insert(position, row) => take::insert(patch, rows, count, position, row, take),
+            Call::Remove(position) => take::remove(patch, rows, count, position, take),
         }
+    }
+
+    // Writes what the take of a number of rows comes to.
+    fn say_take(&self, rt: &impl Print, count: usize, frames: usize) {
+        let samples = count.saturating_mul(frames);
+        let out = sum_of_first(&self.out, samples);
+        let aux = sum_of_first(&self.aux, samples);
+        let kept = sum_of_first(&self.kept, count.saturating_mul(KEPT_WORDS));
+        let _ = println!(rt; " {out} {aux} {kept}");
     }
 }
 
 // A number that tells the first n words from others, or all of them where there are fewer.
 fn sum_of_first(words: &[u32], n: usize) -> u64 {
-    if n > words.len() {
-        return sum_of_words(words);
-    }
-    sum_of_words(&words[..n])
+    sum_of(words.get(..n).unwrap_or(words))
 }
 
-// The samples of a number of rows.
-fn sample_count(rows: usize, frames: usize) -> usize
-    requires { (rows ≤ 64) × (frames ≤ 128) }
-{
-    rows * frames
+// ---- The lines
+
+// Writes the numbers of a call's success, or the two of its refusal.
+fn say_answer(rt: &impl Print, answer: Result<Report, Refusal>) {
+    let _ = match answer {
+        Ok(Report { rows, holds: h }) => {
+            print!(rt;
+                " {rows} {} {} {} {} {} {}",
+                h.held, h.phase, h.wave_position, h.level, h.map, h.bank
+            )
+        }
+        Err(refusal) => print!(rt; " refused {refusal}"),
+    };
 }
 
-// What the take of a number of rows comes to.
-fn print_take(rt: &impl Print, count: usize, frames: usize, out: &[u32], aux: &[u32], kept: &[u32])
-    requires { (count ≤ 64) × (frames ≤ 128) }
-{
-    let samples = sample_count(count, frames);
-    say_number(rt, sum_of_first(out, samples));
-    say_number(rt, sum_of_first(aux, samples));
-    say_number(rt, sum_of_first(kept, count * 13));
-    say(rt, b"\n");
-}
-
-// A score's settings.
-fn settings(s: Score) -> Settings {
-    Settings {
-        instrument: s.instrument,
-        rate: s.rate,
-        frames: s.frames,
-    }
-}
-
-// The call that stands at byte `at`.
-fn call_at(file: &[u8], at: usize) -> Call
-    requires { at < 1000000 }
-{
-    let row = [
-        word(file, at + 8),
-        word(file, at + 12),
-        word(file, at + 16),
-        word(file, at + 20),
-        word(file, at + 24),
-    ];
-    Call {
-        kind: word(file, at),
-        position: word(file, at + 4) as usize,
-        row,
-    }
-}
-
-// A call on a score of `count` rows.
-fn answer_to(
-    settings: Settings,
-    bank: &[i16],
-    map: &[u8],
-    call: Call,
-    rows: &mut [u32],
-    count: usize,
-    out: &mut [u32],
-    aux: &mut [u32],
-    kept: &mut [u32],
-) -> Answer {
-    let at = call.position;
-    let row = call.row;
-    if call.kind == EDIT {
-        return take::edit(settings, bank, map, rows, count, at, row, out, aux, kept);
-    }
-    if call.kind == INSERTION {
-        return take::insert(settings, bank, map, rows, count, at, row, out, aux, kept);
-    }
-    take::remove(settings, bank, map, rows, count, at, out, aux, kept)
-}
-
-// A call's name and position.
-fn print_call(rt: &impl Print, call: Call) {
-    if call.kind == EDIT {
-        say(rt, b"edit");
-    } else if call.kind == INSERTION {
-        say(rt, b"insert");
-    } else {
-        say(rt, b"remove");
-    }
-    say_number(rt, call.position as u64);
+// Writes a call's name, and its position where it has one.
+fn say_call(rt: &impl Print, call: Call) {
+    let _ = match call {
+        Call::Render => print!(rt; "render"),
+        Call::Edit(position, _) => print!(rt; "edit {position}"),
+        Call::Insert(position, _) => print!(rt; "insert {position}"),
+        Call::Remove(position) => print!(rt; "remove {position}"),
+    };
 }
 
 // The row count after a call on a score of `count` rows. There is room for 64.
-fn count_after(call: Call, count: usize, answer: Answer) -> usize
-    requires { count ≤ 64 }
-    ensures { result ≤ 64 }
-{
-    if let Answer::Refused(_) = answer {
-        return count;
+fn count_after(call: Call, count: usize, answer: Result<Report, Refusal>) -> usize {
+    match (answer, call) {
+        (Ok(_), Call::Insert(_, _)) if count < MOST_ROWS => count + 1,
+        (Ok(_), Call::Remove(_)) => count.saturating_sub(1),
+        _ => count,
     }
-    if call.kind == INSERTION {
-        if count < MOST_ROWS {
-            return count + 1;
-        }
-    }
-    if call.kind == REMOVAL {
-        if count > 0 {
-            return count - 1;
-        }
-    }
-    count
 }
 
-// The call that stands at byte `at`, on a score that has `count` rows by then, and its line. Gives the row count after it.
-fn call_one(
+// Does a call on a score that has `count` rows by then, and writes its name and its answer. Gives the row count after it.
+fn perform(
     rt: &impl Print,
-    file: &[u8],
-    s: Score,
-    at: usize,
-    bank: &[i16],
-    map: &[u8],
-    rows: &mut [u32],
+    patch: Patch<'_>,
+    call: Call,
+    words: &mut Words,
     count: usize,
-    out: &mut [u32],
-    aux: &mut [u32],
-    kept: &mut [u32],
-) -> usize
-    requires { (at < 1000000) × (count ≤ 64) }
-    ensures { result ≤ 64 }
-{
-    let call = call_at(file, at);
-    let answer = answer_to(settings(s), bank, map, call, rows, count, out, aux, kept);
-    print_call(rt, call);
-    print_answer(rt, answer);
-    say(rt, b"\n");
+) -> usize {
+    let answer = words.answer(patch, call, count);
+    say_call(rt, call);
+    say_answer(rt, answer);
     count_after(call, count, answer)
 }
 
-// The calls of a score that was rendered, which stand at byte `from`. Gives the row count after them.
-fn call_all(
-    rt: &impl Print,
-    file: &[u8],
-    s: Score,
-    from: usize,
-    bank: &[i16],
-    map: &[u8],
-    rows: &mut [u32],
-    out: &mut [u32],
-    aux: &mut [u32],
-    kept: &mut [u32],
-) -> usize
-    requires { (from < 900000) × ((s.rows ≤ 64) × (s.calls ≤ 8)) }
-    ensures { result ≤ 64 }
-{
-    let mut count = s.rows;
-    let mut i = 0;
-    while i < s.calls {
-        count = call_one(
-            rt,
-            file,
-            s,
-            from + i * 28,
-            bank,
-            map,
-            rows,
-            count,
-            out,
-            aux,
-            kept,
-        );
-        i += 1;
+// Renders a score, and does the calls that come next in the input: a line for each, and one for the take that they leave where there were any.
+fn play(rt: &impl Print, input: &mut Input<'_>, score: Score, patch: Patch<'_>) {
+    let frames = score.settings.frames;
+    let mut words = Words::new(input, score.rows);
+    let mut count = perform(rt, patch, Call::Render, &mut words, score.rows);
+    words.say_take(rt, count, frames);
+    for _ in 0..score.calls {
+        count = perform(rt, patch, input.next_call(), &mut words, count);
+        say(rt, b"\n");
     }
-    count
-}
-
-// The score whose numbers stand at byte `at`.
-fn score_at(file: &[u8], at: usize) -> Score
-    requires { at < 900000 }
-    ensures { result.at ≡ at + 24 }
-{
-    Score {
-        instrument: word(file, at),
-        rate: word(file, at + 4),
-        frames: word(file, at + 8) as usize,
-        seed: word(file, at + 12),
-        rows: word(file, at + 16) as usize,
-        calls: word(file, at + 20) as usize,
-        at: at + 24,
-    }
-}
-
-// The bytes of the map that an instrument takes.
-fn map_length(instrument: u32) -> usize
-    ensures { result ≤ 4096 }
-{
-    if instrument == 2 { MAP } else { 0 }
-}
-
-// Renders a score and prints its line.
-fn render_one(
-    rt: &impl Print,
-    s: Score,
-    bank: &[i16],
-    map: &[u8],
-    rows: &[u32],
-    out: &mut [u32],
-    aux: &mut [u32],
-    kept: &mut [u32],
-)
-    requires { (s.rows ≤ 64) × (s.frames ≤ 128) }
-{
-    let answer = take::render(settings(s), bank, map, rows, s.rows, out, aux, kept);
-    say(rt, b"render");
-    print_answer(rt, answer);
-    print_take(rt, s.rows, s.frames, out, aux, kept);
-}
-
-// The line of a take after its score's calls, where there were any. It has `count` rows by then.
-fn print_changed(rt: &impl Print, s: Score, count: usize, out: &[u32], aux: &[u32], kept: &[u32])
-    requires { (count ≤ 64) × (s.frames ≤ 128) }
-{
-    if s.calls > 0 {
+    if score.calls > 0 {
         say(rt, b"take");
-        print_take(rt, count, s.frames, out, aux, kept);
+        words.say_take(rt, count, frames);
     }
 }
 
-// Renders a score, in lent words, and does its calls.
-fn perform(
-    rt: &impl Print,
-    file: &[u8],
-    s: Score,
-    bank: &[i16],
-    map: &[u8],
-    rows: &mut [u32],
-    out: &mut [u32],
-    aux: &mut [u32],
-    kept: &mut [u32],
-)
-    requires { (s.at < 800000) × ((s.rows ≤ 64) × ((s.frames ≤ 128) × (s.calls ≤ 8))) }
-{
-    let from = s.at + s.rows * 20;
-    render_one(rt, s, bank, map, rows, out, aux, kept);
-    let count = call_all(rt, file, s, from, bank, map, rows, out, aux, kept);
-    print_changed(rt, s, count, out, aux, kept);
+// The same with the bank and the map of the score's seed.
+fn play_seed(rt: &impl Print, input: &mut Input<'_>, score: Score) {
+    let mut bank = [0i16; BANK_LENGTH];
+    let mut map = [0u8; MAP_LENGTH];
+    fill_tables(score.seed, &mut bank, &mut map);
+    let settings = score.settings;
+    let maps = if settings.instrument == TERRAIN_WITH_MAP {
+        MAP_LENGTH
+    } else {
+        0
+    };
+    let patch = Patch {
+        settings,
+        bank: &bank,
+        map: &map[..maps],
+    };
+    play(rt, input, score, patch);
 }
 
-// Plays a score of at most 64 rows, 128 frames and 8 calls, with the bank and the map of its seed.
-fn play(rt: &impl Print, file: &[u8], s: Score)
-    requires { (s.at < 800000) × ((s.rows ≤ 64) × ((s.frames ≤ 128) × (s.calls ≤ 8))) }
-{
-    let maps = map_length(s.instrument);
-    let mut bank = [0i16; BANK];
-    let mut map = [0u8; MAP];
-    fill_tables(s.seed, &mut bank, &mut map);
-    let mut rows = row_words(file, s.at, s.rows * 5);
-    let mut out = [JUNK; MOST_SAMPLES];
-    let mut aux = [JUNK; MOST_SAMPLES];
-    let mut kept = [JUNK; MOST_ROWS * 13];
-    perform(
-        rt,
-        file,
-        s,
-        &bank,
-        &map[..maps],
-        &mut rows,
-        &mut out,
-        &mut aux,
-        &mut kept,
-    );
-}
-
-// Plays the score at byte `at`. Where the next one stands, or past the file where there is none or this one is too large.
-fn play_at(rt: &impl Print, file: &[u8], at: usize) -> usize {
-    if at >= MOST_BYTES {
-        return MOST_BYTES;
-    }
-    let s = score_at(file, at);
-    if s.rows > MOST_ROWS {
-        return MOST_BYTES;
-    }
-    if s.frames > MOST_FRAMES {
-        return MOST_BYTES;
-    }
-    if s.calls > MOST_CALLS {
-        return MOST_BYTES;
-    }
-    play(rt, file, s);
-    s.at + s.rows * 20 + s.calls * 28
-}
-
-// Plays each score of the file, in order.
-fn play_all(rt: &impl Print, file: &[u8]) {
-    let count = word(file, 0);
-    let mut at = 4;
-    let mut i = 0;
-    while i < count {
-        at = play_at(rt, file, at);
-        i += 1;
+// Plays each score of the input, in order, up to its end or a score that is too large.
+fn play_all(rt: &impl Print, words: &[u32]) {
+    let mut input = Input { words };
+    let count = input.next();
+    for _ in 0..count {
+        if input.words.is_empty() {
+            return;
+        }
+        match input.next_score() {
+            Some(score) => play_seed(rt, &mut input, score),
+            None => return,
+        }
     }
 }
 
 fn main(rt: HostRuntime) {
-    let mut buffer = [0u8; MOST_BYTES];
-    let got = read_input(&rt, &mut buffer);
-    play_all(&rt, &buffer[..got]);
+    let mut bytes = [0u8; MOST_WORDS * 4];
+    let got = read_input(&rt, &mut bytes);
+    play_all(&rt, &words_of(&bytes[..got]));
 }

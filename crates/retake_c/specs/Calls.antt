@@ -1,23 +1,23 @@
 -- What the C functions return and leave: the number, what is written to `first`, `second` and `counts`, and the lent words and bytes, by the
 -- definitions of reading, of writing and of the calls over a score and a take.
-use Rattle.std.specs.Prelude.{ℕ, List, [], ◌∷◌}
-use Rattle.score.specs.Numbers.{Result}
+use Rattle.std.specs.Prelude.{ℕ, List, [], ◌∷◌, Result, Ok, Err}
+use Rattle.score.specs.declared.refusal.Refusal.{Refusal}
+use Rattle.score.specs.Numbers.{CallResult}
 use Rattle.reader.specs.Reading as reading
 use Rattle.writer.specs.Writing as writing
 use Rattle.rows.specs.declared.Settings.{Settings}
 use Rattle.rows.specs.Rows.{Take}
 use Rattle.utils.specs.Holds.{none}
-use Rattle.take.specs.declared.Answer.{Answer}
-use Rattle.take.specs.declared.Answer.TheVariants.{Done, Refused}
+use Rattle.rows.specs.declared.Report.{Report}
 use Rattle.take.specs.Take.{counts_of, result_of, Outcome}
 
 -- The first of a call's values, 0 where there is none.
-unfoldable pub first_of : List ℕ → ℕ
+abbrev pub first_of : List ℕ → ℕ
 first_of [] = 0
 first_of (value ∷ values) = value
 
 -- The second of a call's values, 0 where there is none.
-unfoldable pub second_of : List ℕ → ℕ
+abbrev pub second_of : List ℕ → ℕ
 second_of [] = 0
 second_of (value ∷ values) = first_of values
 
@@ -30,7 +30,7 @@ pub record Given : Type 0 where
 abbrev pub given : ℕ → ℕ → ℕ → Given
 given number first second = record { number = number; first = first; second = second }
 
-unfoldable pub given_of : Result → Given
+abbrev pub given_of : CallResult → Given
 given_of r = given r.number (first_of r.values) (second_of r.values)
 
 -- The three numbers that stay the same from call to call.
@@ -52,9 +52,9 @@ abbrev pub of_writing : writing.Outcome → Filled
 of_writing o = filled (given_of (writing.result_of o.answer)) o.text
 
 -- What is written to `counts`: the five counts of an accepted call, and zeros on a refusal.
-unfoldable pub counts_in : Answer → List ℕ
-counts_in (Done report) = counts_of report.holds
-counts_in (Refused r) = counts_of none
+abbrev pub counts_in : Result Report Refusal → List ℕ
+counts_in (Ok report) = counts_of report.holds
+counts_in (Err r) = counts_of none
 
 -- After rendering, an edit, an insertion or a removal: the result, the five counts, the lent row words, and the lent take.
 pub record Called : Type 0 where

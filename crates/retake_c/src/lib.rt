@@ -2,6 +2,7 @@
 // `first` and `second`: the row count and 0 (reader), the byte count and 0 (writer), the rows rendered and `held` (rendering, edit, insertion,
 // removal), the place and 0 (a refusal). Rendering, edit, insertion and removal also write the five counts of what was held, zeros on a refusal.
 // The score and its take stand at the start of the lent words; `count` says how many rows it has.
+// Refusals are numbers here, and what is lent comes one by one with no struct: the C interface needs it.
 #![tactic(auto)]
 
 ghost use Rattle.std.specs.Prelude.{◌≡◌, ◌∷◌, []};
@@ -10,98 +11,96 @@ ghost use Rattle.reader.specs.Reading.{read_of};
 ghost use Rattle.reader.specs.Reading as reading;
 ghost use Rattle.writer.specs.Writing.{write_of};
 ghost use Rattle.writer.specs.Writing as writing;
-ghost use Rattle.rows.specs.Rows.{setup, lent};
-ghost use Rattle.refusals.specs.Calls.{render, edit, insert, remove};
+ghost use Rattle.rows.specs.Rows.{setup, setup_by, lent};
+ghost use Rattle.refusals.specs.declared.Call.TheVariants.{Render, Edit, Insert, Remove};
 ghost use Rattle.take.specs.Take.{result_of, call_of};
 ghost use Rattle.retake_c.specs.Calls.{given, given_of, counts_in, settings, filled, of_reading, of_writing, called, of_call};
 
-use reader::ReadAnswer;
-use rows::Settings;
+use rows::{Patch, Report, Settings, Take};
 use score::refusal::Refusal;
-use take::Answer;
-use writer::WriteAnswer;
 
-// The number of an answer, and its first two values.
-#[derive(Clone, Copy)]
-struct Values {
-    number: u32,
-    first: u64,
-    second: u64,
-}
-
-// The number of a refusal, and its place.
-fn refused_values(refusal: Refusal) -> Values
-    ensures { given result.number result.first result.second ≡ given_of (refused refusal) }
+// Writes the place of a refusal and 0. Gives its number.
+fn refuse(refusal: Refusal, first: &mut u64, second: &mut u64) -> u32
+    ensures { given result first.new second.new ≡ given_of (refused refusal) }
 {
-    Values {
-        number: refusal.number,
-        first: refusal.place as u64,
-        second: 0,
-    }
+    *first = refusal.place() as u64;
+    *second = 0;
+    refusal.number()
 }
 
-fn read_values(answer: ReadAnswer) -> Values
-    ensures { given result.number result.first result.second ≡ given_of (reading.result_of answer) }
+// Writes the count that reading or writing a text comes to, and 0, or its refusal. Gives its number.
+#[tactic(auto, unfolding(reader::specs::Reading::result_of, writer::specs::Writing::result_of))]
+fn give_count(answer: Result<usize, Refusal>, first: &mut u64, second: &mut u64) -> u32
+    ensures read { given result first.new second.new ≡ given_of (reading.result_of answer) }
+    ensures written { given result first.new second.new ≡ given_of (writing.result_of answer) }
 {
     match answer {
-        ReadAnswer::Read(count) => Values {
-            number: 0,
-            first: count as u64,
-            second: 0,
-        },
-        ReadAnswer::Refused(refusal) => refused_values(refusal),
-    }
-}
-
-fn write_values(answer: WriteAnswer) -> Values
-    ensures { given result.number result.first result.second ≡ given_of (writing.result_of answer) }
-{
-    match answer {
-        WriteAnswer::Written(bytes) => Values {
-            number: 0,
-            first: bytes as u64,
-            second: 0,
-        },
-        WriteAnswer::Refused(refusal) => refused_values(refusal),
-    }
-}
-
-fn values_of(answer: Answer) -> Values
-    ensures { given result.number result.first result.second ≡ given_of (result_of answer) }
-{
-    match answer {
-        Answer::Done(report) => Values {
-            number: 0,
-            first: report.rows as u64,
-            second: report.holds.held as u64,
-        },
-        Answer::Refused(refusal) => refused_values(refusal),
+        Ok(count) => {
+            *first = count as u64;
+            *second = 0;
+            0
+        }
+        Err(refusal) => refuse(refusal, first, second),
     }
 }
 
 // The five counts of an answer, zeros of a refusal.
-fn counts_of(answer: Answer) -> [u64; 5]
+fn counts_of(answer: Result<Report, Refusal>) -> [u64; 5]
     ensures { result ≡ counts_in answer }
 {
     match answer {
-        Answer::Done(report) => [
+        Ok(report) => [
             report.holds.phase as u64,
             report.holds.wave_position as u64,
             report.holds.level as u64,
             report.holds.map as u64,
             report.holds.bank as u64,
         ],
-        Answer::Refused(_) => [0; 5],
+        Err(_) => [0; 5],
     }
 }
 
-fn settings_of(instrument: u32, rate: u32, frames: u32) -> Settings
-    ensures { result ≡ settings instrument rate frames }
+// Writes the rows that a call over a score and a take rendered and what it held, with the counts, or its refusal. Gives its number.
+#[tactic(auto, unfolding(take::specs::Take::result_of))]
+fn give_report(
+    answer: Result<Report, Refusal>,
+    first: &mut u64,
+    second: &mut u64,
+    counts: &mut [u64; 5],
+) -> u32
+    ensures value { given result first.new second.new ≡ given_of (result_of answer) }
+    ensures counts_after { counts.new ≡ counts_in answer }
 {
-    Settings {
+    *counts = counts_of(answer);
+    match answer {
+        Ok(report) => {
+            *first = report.rows as u64;
+            *second = report.holds.held as u64;
+            0
+        }
+        Err(refusal) => refuse(refusal, first, second),
+    }
+}
+
+// What a call is lent beside the rows.
+fn patch_of<'a>(
+    instrument: u32,
+    rate: u32,
+    frames: u32,
+    bank: &'a [i16],
+    map: &'a [u8],
+) -> Patch<'a>
+    ensures { setup_by result ≡ setup (settings instrument rate frames) bank.now map.now }
+{
+    let settings = Settings {
         instrument,
         rate,
         frames: frames as usize,
+    };
+    Patch {
+        settings,
+        bank,
+        map,
     }
 }
 
@@ -117,10 +116,7 @@ pub extern "C" fn retake_read_score(
         ≡ of_reading (read_of text.now rows.old) }
 {
     let answer = reader::read(text, rows);
-    let v = read_values(answer);
-    *first = v.first;
-    *second = v.second;
-    v.number
+    give_count(answer, first, second)
 }
 
 // Writes row words as a score's text.
@@ -136,10 +132,7 @@ pub extern "C" fn retake_write_score(
         ≡ of_writing (write_of count rows.now text.old) }
 {
     let answer = writer::write(rows, count as usize, text);
-    let v = write_values(answer);
-    *first = v.first;
-    *second = v.second;
-    v.number
+    give_count(answer, first, second)
 }
 
 // Renders a whole score into a take.
@@ -162,15 +155,12 @@ pub extern "C" fn retake_render(
     ensures { called (given result first.new second.new) counts.new rows.now
         (lent out.new aux.new kept.new)
         ≡ of_call (call_of (setup (settings instrument rate frames) bank.now map.now) count rows.now
-        (lent out.old aux.old kept.old) (render)) }
+        (lent out.old aux.old kept.old) Render) }
 {
-    let settings = settings_of(instrument, rate, frames);
-    let answer = take::render(settings, bank, map, rows, count as usize, out, aux, kept);
-    let v = values_of(answer);
-    *first = v.first;
-    *second = v.second;
-    *counts = counts_of(answer);
-    v.number
+    let patch = patch_of(instrument, rate, frames, bank, map);
+    let mut take = Take { out, aux, kept };
+    let answer = take::render(patch, rows, count as usize, &mut take);
+    give_report(answer, first, second, counts)
 }
 
 // Puts five words into a row and renders what depends on it.
@@ -199,27 +189,20 @@ pub extern "C" fn retake_edit(
     ensures { called (given result first.new second.new) counts.new rows.new
         (lent out.new aux.new kept.new)
         ≡ of_call (call_of (setup (settings instrument rate frames) bank.now map.now) count rows.old
-        (lent out.old aux.old kept.old) (edit position (note ∷ timbre ∷ morph ∷ harmonics ∷ restart ∷ []))) }
+        (lent out.old aux.old kept.old) (Edit position (note ∷ timbre ∷ morph ∷ harmonics ∷ restart ∷ []))) }
 {
     let edited = [note, timbre, morph, harmonics, restart];
-    let settings = settings_of(instrument, rate, frames);
+    let patch = patch_of(instrument, rate, frames, bank, map);
+    let mut take = Take { out, aux, kept };
     let answer = take::edit(
-        settings,
-        bank,
-        map,
+        patch,
         rows,
         count as usize,
         position as usize,
         edited,
-        out,
-        aux,
-        kept,
+        &mut take,
     );
-    let v = values_of(answer);
-    *first = v.first;
-    *second = v.second;
-    *counts = counts_of(answer);
-    v.number
+    give_report(answer, first, second, counts)
 }
 
 // Puts a row of five words in between the others, moves the later ones up, and renders what depends on it.
@@ -248,27 +231,20 @@ pub extern "C" fn retake_insert(
     ensures { called (given result first.new second.new) counts.new rows.new
         (lent out.new aux.new kept.new)
         ≡ of_call (call_of (setup (settings instrument rate frames) bank.now map.now) count rows.old
-        (lent out.old aux.old kept.old) (insert position (note ∷ timbre ∷ morph ∷ harmonics ∷ restart ∷ []))) }
+        (lent out.old aux.old kept.old) (Insert position (note ∷ timbre ∷ morph ∷ harmonics ∷ restart ∷ []))) }
 {
     let inserted = [note, timbre, morph, harmonics, restart];
-    let settings = settings_of(instrument, rate, frames);
+    let patch = patch_of(instrument, rate, frames, bank, map);
+    let mut take = Take { out, aux, kept };
     let answer = take::insert(
-        settings,
-        bank,
-        map,
+        patch,
         rows,
         count as usize,
         position as usize,
         inserted,
-        out,
-        aux,
-        kept,
+        &mut take,
     );
-    let v = values_of(answer);
-    *first = v.first;
-    *second = v.second;
-    *counts = counts_of(answer);
-    v.number
+    give_report(answer, first, second, counts)
 }
 
 // Takes a row out, moves the later ones down, and renders what depends on that.
@@ -292,23 +268,10 @@ pub extern "C" fn retake_remove(
     ensures { called (given result first.new second.new) counts.new rows.new
         (lent out.new aux.new kept.new)
         ≡ of_call (call_of (setup (settings instrument rate frames) bank.now map.now) count rows.old
-        (lent out.old aux.old kept.old) (remove position)) }
+        (lent out.old aux.old kept.old) (Remove position)) }
 {
-    let settings = settings_of(instrument, rate, frames);
-    let answer = take::remove(
-        settings,
-        bank,
-        map,
-        rows,
-        count as usize,
-        position as usize,
-        out,
-        aux,
-        kept,
-    );
-    let v = values_of(answer);
-    *first = v.first;
-    *second = v.second;
-    *counts = counts_of(answer);
-    v.number
+    let patch = patch_of(instrument, rate, frames, bank, map);
+    let mut take = Take { out, aux, kept };
+    let answer = take::remove(patch, rows, count as usize, position as usize, &mut take);
+    give_report(answer, first, second, counts)
 }

@@ -1,12 +1,13 @@
 // The static library for hosts, `libretake_c.a`: what C calls. Each function is the one of `retake_c` under the same name, with the same clauses,
 // which include/retake.h declares and explains.
+// The twins of `retake_c` are whole functions with clauses of their own: the C interface needs them in a static library.
 #![tactic(auto)]
 
 ghost use Rattle.std.specs.Prelude.{◌≡◌, ◌∷◌, []};
 ghost use Rattle.reader.specs.Reading.{read_of};
 ghost use Rattle.writer.specs.Writing.{write_of};
 ghost use Rattle.rows.specs.Rows.{setup, lent};
-ghost use Rattle.refusals.specs.Calls.{render, edit, insert, remove};
+ghost use Rattle.refusals.specs.declared.Call.TheVariants.{Render, Edit, Insert, Remove};
 ghost use Rattle.take.specs.Take.{call_of};
 ghost use Rattle.retake_c.specs.Calls.{given, settings, filled, of_reading, of_writing, called, of_call};
 
@@ -59,7 +60,7 @@ pub extern "C" fn retake_render(
     ensures { called (given result first.new second.new) counts.new rows.now
         (lent out.new aux.new kept.new)
         ≡ of_call (call_of (setup (settings instrument rate frames) bank.now map.now) count rows.now
-        (lent out.old aux.old kept.old) (render)) }
+        (lent out.old aux.old kept.old) Render) }
 {
     retake_c::retake_render(
         instrument, rate, frames, bank, map, rows, count, out, aux, kept, first, second, counts,
@@ -92,7 +93,7 @@ pub extern "C" fn retake_edit(
     ensures { called (given result first.new second.new) counts.new rows.new
         (lent out.new aux.new kept.new)
         ≡ of_call (call_of (setup (settings instrument rate frames) bank.now map.now) count rows.old
-        (lent out.old aux.old kept.old) (edit position (note ∷ timbre ∷ morph ∷ harmonics ∷ restart ∷ []))) }
+        (lent out.old aux.old kept.old) (Edit position (note ∷ timbre ∷ morph ∷ harmonics ∷ restart ∷ []))) }
 {
     retake_c::retake_edit(
         instrument, rate, frames, bank, map, rows, count, position, note, timbre, morph, harmonics,
@@ -126,7 +127,7 @@ pub extern "C" fn retake_insert(
     ensures { called (given result first.new second.new) counts.new rows.new
         (lent out.new aux.new kept.new)
         ≡ of_call (call_of (setup (settings instrument rate frames) bank.now map.now) count rows.old
-        (lent out.old aux.old kept.old) (insert position (note ∷ timbre ∷ morph ∷ harmonics ∷ restart ∷ []))) }
+        (lent out.old aux.old kept.old) (Insert position (note ∷ timbre ∷ morph ∷ harmonics ∷ restart ∷ []))) }
 {
     retake_c::retake_insert(
         instrument, rate, frames, bank, map, rows, count, position, note, timbre, morph, harmonics,
@@ -155,7 +156,7 @@ pub extern "C" fn retake_remove(
     ensures { called (given result first.new second.new) counts.new rows.new
         (lent out.new aux.new kept.new)
         ≡ of_call (call_of (setup (settings instrument rate frames) bank.now map.now) count rows.old
-        (lent out.old aux.old kept.old) (remove position)) }
+        (lent out.old aux.old kept.old) (Remove position)) }
 {
     retake_c::retake_remove(
         instrument, rate, frames, bank, map, rows, count, position, out, aux, kept, first, second,

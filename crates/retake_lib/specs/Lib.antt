@@ -1,2 +1,2 @@
 pub mod Program
-pub mod Lent
+pub mod Edits

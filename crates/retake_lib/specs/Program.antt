@@ -1,5 +1,5 @@
 -- Document 01, "The program `retake`": what it prints and which files it writes, as functions of the three files that it reads.
-use Rattle.std.specs.Prelude.{ℕ, zero, suc, ◌*◌, ◌≡◌, List, [], ◌∷◌, ◌++◌, ℤ, length, get_or, take, drop}
+use Rattle.std.specs.Prelude.{ℕ, zero, suc, ◌*◌, ◌≡◌, List, [], ◌∷◌, ◌++◌, ℤ, get_or, length, take, drop, Result, Ok, Err}
 use Rattle.formats.specs.Formats.{samples_of}
 use Rattle.score.specs.Rows.{row_words}
 use Rattle.reader.specs.Reading.{edit_words}
@@ -7,19 +7,21 @@ use Rattle.score.specs.declared.refusal.Refusal.{Refusal}
 use Rattle.voice.specs.Voice.{kept_count}
 use Rattle.rows.specs.declared.Settings.{Settings}
 use Rattle.rows.specs.Rows.{Setup, setup, Take, lent}
-use Rattle.refusals.specs.Calls.{Call, render, edit, position}
+use Rattle.refusals.specs.declared.Call.{Call}
+use Rattle.refusals.specs.declared.Call.TheVariants.{Render, Edit}
+use Rattle.refusals.specs.Calls.{position}
 use Rattle.retakes.specs.Retakes.{take_of, Reel, reel, called, next, after, fresh_of, expected}
 use Rattle.inputs.specs.declared.Inputs.{Inputs}
-use Rattle.inputs.specs.declared.Inputs.TheVariants.{Taken, Turned}
-use Rattle.inputs.specs.Inputs.{zeros, score_text, edits_text, inputs_of}
+use Rattle.inputs.specs.Inputs.{zeros, inputs_of}
 use Rattle.outputs.specs.Lines.{heading, refused_line, edit_line}
-use Rattle.outputs.specs.Files.{File, files_of}
+use Rattle.outputs.specs.Files.{File, files_of, files_in}
+use Rattle.retake_lib.specs.declared.Written.{Written}
 
 -- ---- Edits.
 
 -- An edit's six words: the row, then the row's five.
 abbrev pub edit_from : List ℕ → Call
-edit_from w = edit (get_or w 0 0) (get_or w 1 0 ∷ get_or w 2 0 ∷ get_or w 3 0 ∷ get_or w 4 0 ∷ get_or w 5 0 ∷ [])
+edit_from w = Edit (get_or w 0 0) (get_or w 1 0 ∷ get_or w 2 0 ∷ get_or w 3 0 ∷ get_or w 4 0 ∷ get_or w 5 0 ∷ [])
 
 -- So many edits.
 unfoldable pub edits_from : ℕ → List ℕ → List Call
@@ -69,30 +71,34 @@ pub record Output : Type 0 where
 
 -- "After a refusal of these three, nothing more is printed or written."
 abbrev pub turned : Refusal → Output
-turned r = record { printed = refused_line r.number r.place; files = [] }
+turned r = record { printed = refused_line r; files = [] }
 
 -- A score of n rows rendered whole into a take, then edit after edit. "After the last edit it writes `out.f32` and `aux.f32`".
 unfoldable pub played : Setup → ℕ → List ℕ → Take → List Call → Output
 played s n rows t es =
-    let o = next s (reel n rows t) render in
+    let o = next s (reel n rows t) Render in
     let t' = (after s o es).left in
     record { printed = heading ++ edit_lines s o es; files = files_of t'.out t'.aux }
 
 -- By what the texts and the bank gave.
-unfoldable pub output_of : Inputs → List ℕ → List ℕ → List ℕ → Output
-output_of (Turned r) rows edits bank = turned r
-output_of (Taken n m) rows edits bank = played (setup_of bank) n (take (n * row_words) rows) (blank n) (edits_from m edits)
+unfoldable pub output_of : Result Inputs Refusal → List ℕ → Output
+output_of (Err r) bank = turned r
+output_of (Ok given) bank =
+    played (setup_of bank) given.count (take (given.count * row_words) given.rows) (blank given.count) (edits_from given.edit_count given.edits)
 
 -- The program, by the bytes of `score.txt`, `edits.txt` and `bank.bin`.
 unfoldable pub program : List ℕ → List ℕ → List ℕ → Output
-program score edits bank =
-    output_of (inputs_of (score_text score).answer (edits_text edits).answer (length bank)) (score_text score).rows (edits_text edits).rows bank
+program score edits bank = output_of (inputs_of score edits (length bank)) bank
+
+-- What the code hands over, as an output.
+abbrev pub output_in : Written → Output
+output_in w = record { printed = w.printed.bytes; files = files_in w.files }
 
 -- Demand 3 as far as the files: they hold the fresh rendering of the score with each accepted edit's row put in.
 abbrev pub FilesFresh : Type 0
 FilesFresh =
-    (score edits bank : List ℕ) (n m : ℕ) → inputs_of (score_text score).answer (edits_text edits).answer (length bank) ≡ Taken n m
+    (score edits bank : List ℕ) (given : Inputs) → inputs_of score edits (length bank) ≡ Ok given
     → let s = setup_of bank in
-    let o = reel n (take (n * row_words) (score_text score).rows) (blank n) in
-    let last = take_of (fresh_of s (expected s o (render ∷ edits_from m (edits_text edits).rows))) in
+    let o = reel given.count (take (given.count * row_words) given.rows) (blank given.count) in
+    let last = take_of (fresh_of s (expected s o (Render ∷ edits_from given.edit_count given.edits))) in
     (program score edits bank).files ≡ files_of last.out last.aux

@@ -1,23 +1,24 @@
 // The whole rendering of a score and the edits after it, on the program's instrument.
-ghost use Rattle.std.specs.Prelude.{◌≡◌, ◌+◌, ◌*◌, ◌≤◌, length, take};
+ghost use Rattle.std.specs.Prelude.{◌≡◌, ◌+◌, ◌*◌, ◌≤◌, length, map, take};
 ghost use Rattle.score.specs.Rows.{row_words};
 ghost use Rattle.reader.specs.Reading.{edit_words};
-ghost use Rattle.oscillator.specs.Bank.{bank_length};
-ghost use Rattle.voice.specs.Voice.{kept_count};
-ghost use Rattle.rows.specs.Rows.{lent};
+ghost use Rattle.arrayvec.specs.ArrayString.{array_string_len};
+ghost use Rattle.rows.specs.Rows.{setup_by, words_of, SamePlaces};
 ghost use Rattle.retakes.specs.Retakes.{reel};
-ghost use Rattle.inputs.specs.Inputs.{zeros, most_rows, bytes_of_bank, Given};
+ghost use Rattle.inputs.specs.Inputs.{bytes_of_bank, Within};
+ghost use Rattle.outputs.specs.Files.{file_in, files_of};
 ghost use Rattle.outputs.specs.Lines.{most_line};
-ghost use Rattle.retake_lib.specs.Program.{setup_with, setup_of, edit_at, edits_from, frames, blank, played};
-ghost use Rattle.retake_lib.specs.Lent.{bytes_lent, EditDone, EditsDone, Room, RunRoom, Ran};
+ghost use Rattle.retake_lib.specs.Program.{setup_with, setup_of, edit_at, edits_from, blank, played, output_in};
+ghost use Rattle.retake_lib.specs.Edits.{EditDone, EditsDone, Room};
 
-use crate::Lengths;
-use inputs::MOST_ROWS;
+use crate::{FILE_ROOM, PRINTED_ROOM, Written};
+use arrayvec::ArrayString;
+use inputs::{Inputs, MOST_ROWS, zeros};
 use oscillator::bank::BANK_LENGTH;
-use outputs::files::put_files;
+use outputs::files::{OutputFile, files_of};
 use outputs::lines::{put_answer, put_heading};
 use reader::EDIT_WORDS;
-use rows::Settings;
+use rows::{Patch, Settings, Take};
 use score::rows::ROW_WORDS;
 use voice::{KEPT_WORDS, WAVETABLE};
 
@@ -33,25 +34,22 @@ const SETTINGS: Settings = Settings {
     frames: FRAMES,
 };
 
-// Edit k of the edits' words, and its line; where the line ends.
+// Edit k of the edits' words, and its line.
 fn edit(
-    bank: &[i16],
+    patch: Patch<'_>,
     edits: &[u32],
     k: usize,
     rows: &mut [u32],
     n: usize,
-    out: &mut [u32],
-    aux: &mut [u32],
-    kept: &mut [u32],
-    printed: &mut [u8],
-    at: usize,
-) -> usize
+    take: &mut Take<'_>,
+    printed: &mut ArrayString<PRINTED_ROOM>,
+)
     requires edit_words_in_bounds { k * edit_words + edit_words ≤ length edits.now }
-    requires most_line_in_bounds { at + most_line ≤ length printed.old }
-    ensures { EditDone (setup_with bank.now) (edit_at edits.now k)
-        (reel n rows.old (lent out.old aux.old kept.old))
-        (reel n rows.new (lent out.new aux.new kept.new))
-        printed.old at printed.new result }
+    requires most_line_in_bounds { array_string_len printed.old + most_line ≤ PRINTED_ROOM }
+    ensures same_places { SamePlaces take.old take.new }
+    ensures done { EditDone (setup_by patch.entry) (edit_at edits.now k)
+        (reel n rows.old (words_of take.old)) (reel n rows.new (words_of take.new)) printed.old.bytes printed.new.bytes }
+    ensures len { array_string_len printed.new ≤ array_string_len printed.old + most_line }
 {
     let a = k * EDIT_WORDS;
     let position = edits[a];
@@ -62,155 +60,107 @@ fn edit(
         edits[a + 4],
         edits[a + 5],
     ];
-    let answer = take::edit(
-        SETTINGS,
-        bank,
-        b"",
-        rows,
-        n,
-        position as usize,
-        row,
-        out,
-        aux,
-        kept,
-    );
-    put_answer(position, answer, printed, at)
+    let answer = take::edit(patch, rows, n, position as usize, row, take);
+    put_answer(position, answer, printed);
 }
 
-// So many edits, one after the other, and their lines; where these end.
+// So many edits, one after the other, and their lines.
 fn edit_all(
-    bank: &[i16],
+    patch: Patch<'_>,
     edits: &[u32],
     count: usize,
     rows: &mut [u32],
     n: usize,
-    out: &mut [u32],
-    aux: &mut [u32],
-    kept: &mut [u32],
-    printed: &mut [u8],
-    at: usize,
-) -> usize
+    take: &mut Take<'_>,
+    printed: &mut ArrayString<PRINTED_ROOM>,
+)
     requires edit_words_in_bounds { count * edit_words ≤ length edits.now }
-    requires most_line_in_bounds { at + count * most_line ≤ length printed.old }
-    ensures { EditsDone (setup_with bank.now) (edits_from count edits.now)
-        (reel n rows.old (lent out.old aux.old kept.old))
-        (reel n rows.new (lent out.new aux.new kept.new))
-        printed.old at printed.new result }
+    requires most_line_in_bounds { array_string_len printed.old + count * most_line ≤ PRINTED_ROOM }
+    ensures same_places { SamePlaces take.old take.new }
+    ensures done { EditsDone (setup_by patch.entry) (edits_from count edits.now)
+        (reel n rows.old (words_of take.old)) (reel n rows.new (words_of take.new)) printed.old.bytes printed.new.bytes }
 {
-    let mut end = at;
-    let mut k = 0;
-    while k < count {
-        end = edit(bank, edits, k, rows, n, out, aux, kept, printed, end);
-        k += 1;
+    for k in 0..count {
+        edit(patch, edits, k, rows, n, take, printed);
     }
-    end
+}
+
+// The files of a take.
+fn files_in(take: &Take<'_>) -> [OutputFile<FILE_ROOM>; 2]
+    requires out_in_bounds { length take.now.out.now * 4 ≤ FILE_ROOM }
+    requires aux_in_bounds { length take.now.aux.now * 4 ≤ FILE_ROOM }
+    ensures { map file_in result ≡ files_of take.now.out.now take.now.aux.now }
+{
+    files_of(take.out, take.aux)
 }
 
 // The rendering, the heading, the edits with their lines, and the files of what they left.
-fn play_words(
-    bank: &[i16],
+fn play_take(
+    patch: Patch<'_>,
     edits: &[u32],
     count: usize,
     rows: &mut [u32],
     n: usize,
-    out: &mut [u32],
-    aux: &mut [u32],
-    kept: &mut [u32],
-    printed: &mut [u8],
-    first: &mut [u8],
-    second: &mut [u8],
-) -> Lengths
-    requires { Room (length out.old) (length aux.old) count edits.now printed.old first.old second.old }
-    ensures { Ran (played (setup_with bank.now) n rows.old
-        (lent out.old aux.old kept.old) (edits_from count edits.now))
-        (bytes_lent printed.old first.old second.old)
-        (bytes_lent printed.new first.new second.new) result }
+    take: &mut Take<'_>,
+) -> Written
+    requires { Room count edits.now n patch.settings.frames (words_of take.old) }
+    ensures same_places { SamePlaces take.old take.new }
+    ensures output { output_in result
+        ≡ played (setup_by patch.entry) n rows.old (words_of take.old) (edits_from count edits.now) }
 {
-    take::render(SETTINGS, bank, b"", rows, n, out, aux, kept);
-    let at = put_heading(printed);
-    let end = edit_all(bank, edits, count, rows, n, out, aux, kept, printed, at);
-    let files = put_files(out, aux, first, second);
-    Lengths {
-        printed: end,
-        files,
+    let mut printed = ArrayString::new();
+    // A score that was read is never refused here.
+    let _ = take::render(patch, rows, n, take);
+    put_heading(&mut printed);
+    edit_all(patch, edits, count, rows, n, take, &mut printed);
+    Written {
+        printed,
+        files: Some(files_in(take)),
     }
 }
 
-fn no_samples() -> [u32; MOST_ROWS * FRAMES]
-    ensures { result ≡ zeros (most_rows * frames) }
-{
-    [0; MOST_ROWS * FRAMES]
-}
-
-fn no_kept() -> [u32; MOST_ROWS * KEPT_WORDS]
-    ensures { result ≡ zeros (most_rows * kept_count) }
-{
-    [0; MOST_ROWS * KEPT_WORDS]
-}
-
 // The same of n rows, into a take that is all 0.
-fn play_rows(
-    bank: &[i16],
-    edits: &[u32],
-    count: usize,
-    rows: &mut [u32],
-    n: usize,
-    printed: &mut [u8],
-    first: &mut [u8],
-    second: &mut [u8],
-) -> Lengths
-    requires given { Given n count rows.old edits.now }
-    requires run_room { RunRoom printed.old first.old second.old }
-    ensures { Ran (played (setup_with bank.now) n (take (n * row_words) rows.old) (blank n) (edits_from count edits.now))
-        (bytes_lent printed.old first.old second.old)
-        (bytes_lent printed.new first.new second.new) result }
+fn play_rows(bank: &[i16], given: Inputs) -> Written
+    requires { Within given }
+    ensures { output_in result ≡ played (setup_with bank.now) given.count
+        (take (given.count * row_words) given.rows) (blank given.count) (edits_from given.edit_count given.edits) }
 {
-    let mut out = no_samples();
-    let mut aux = no_samples();
-    let mut kept = no_kept();
+    let n = given.count;
+    let mut rows = given.rows;
+    let mut out: [u32; MOST_ROWS * FRAMES] = zeros();
+    let mut aux: [u32; MOST_ROWS * FRAMES] = zeros();
+    let mut kept: [u32; MOST_ROWS * KEPT_WORDS] = zeros();
+    let patch = Patch {
+        settings: SETTINGS,
+        bank,
+        map: b"",
+    };
     let samples = n * FRAMES;
     let words = n * KEPT_WORDS;
     let used = n * ROW_WORDS;
-    play_words(
-        bank,
-        edits,
-        count,
+    let mut take = Take {
+        out: &mut out[..samples],
+        aux: &mut aux[..samples],
+        kept: &mut kept[..words],
+    };
+    play_take(
+        patch,
+        &given.edits,
+        given.edit_count,
         &mut rows[..used],
         n,
-        &mut out[..samples],
-        &mut aux[..samples],
-        &mut kept[..words],
-        printed,
-        first,
-        second,
+        &mut take,
     )
 }
 
-fn no_bank() -> [i16; BANK_LENGTH]
-    ensures { length result ≡ bank_length }
-{
-    [0; BANK_LENGTH]
-}
-
 // The same from the bank's bytes.
-pub fn play(
-    bank: &[u8],
-    edits: &[u32],
-    count: usize,
-    rows: &mut [u32],
-    n: usize,
-    printed: &mut [u8],
-    first: &mut [u8],
-    second: &mut [u8],
-) -> Lengths
+pub fn play(bank: &[u8], given: Inputs) -> Written
     requires bank_len { length bank.now ≡ bytes_of_bank }
-    requires given { Given n count rows.old edits.now }
-    requires run_room { RunRoom printed.old first.old second.old }
-    ensures { Ran (played (setup_of bank.now) n (take (n * row_words) rows.old) (blank n) (edits_from count edits.now))
-        (bytes_lent printed.old first.old second.old)
-        (bytes_lent printed.new first.new second.new) result }
+    requires within { Within given }
+    ensures { output_in result ≡ played (setup_of bank.now) given.count
+        (take (given.count * row_words) given.rows) (blank given.count) (edits_from given.edit_count given.edits) }
 {
-    let mut samples = no_bank();
+    let mut samples = [0i16; BANK_LENGTH];
     formats::samples_of(bank, &mut samples);
-    play_rows(&samples, edits, count, rows, n, printed, first, second)
+    play_rows(&samples, given)
 }

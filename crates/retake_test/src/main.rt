@@ -8,12 +8,11 @@
 
 ghost use Rattle.std.specs.Prelude.{◌+◌, ◌≤◌, ◌<◌, length};
 ghost use Rattle.inputs.specs.Inputs.{bytes_of_bank};
-ghost use Rattle.outputs.specs.Files.{Within};
 
 use inputs::BANK_BYTES;
-use outputs::files::{Files, Place};
-use retake_lib::{BANK_ROOM, FILE_ROOM, PRINTED_ROOM};
-use trial::{after, fill_bytes, read_input, say, say_number, sum_of, text_end};
+use outputs::files::OutputFile;
+use retake_lib::{BANK_ROOM, FILE_ROOM};
+use trial::{after, fill, read_input, say, say_number, sum_of, text_end};
 
 const INPUT_ROOM: usize = 65536;
 
@@ -21,58 +20,29 @@ const INPUT_ROOM: usize = 65536;
 fn bank_length(how: u8) -> usize
     ensures { result ≤ bytes_of_bank + 1 }
 {
-    if how == b'=' {
-        return BANK_BYTES;
+    match how {
+        b'=' => BANK_BYTES,
+        b'<' => BANK_BYTES - 1,
+        b'>' => BANK_BYTES + 1,
+        _ => 0,
     }
-    if how == b'<' {
-        return BANK_BYTES - 1;
-    }
-    if how == b'>' {
-        return BANK_BYTES + 1;
-    }
-    0
 }
 
 // The files' length and sums.
-fn show_placed(rt: &impl Print, first: &[u8], place: Place, second: &[u8], other: Place)
-    requires within { Within place first.now }
-    requires within_2 { Within other second.now }
-{
-    let start = place.name;
-    let end = place.end;
-    let from = other.name;
-    let to = other.end;
+fn show_files(rt: &impl Print, files: &[OutputFile<FILE_ROOM>; 2]) {
+    let [out, aux] = files;
     say(rt, b"files");
-    say_number(rt, (end - start) as u64);
-    say_number(rt, sum_of(&first[start..end]));
-    say_number(rt, sum_of(&second[from..to]));
+    say_number(rt, out.bytes.len() as u64);
+    say_number(rt, sum_of(out.bytes.as_slice()));
+    say_number(rt, sum_of(aux.bytes.as_slice()));
     say(rt, b"\n");
 }
 
-fn show_files(
-    rt: &impl Print,
-    first: &[u8; FILE_ROOM],
-    place: Place,
-    second: &[u8; FILE_ROOM],
-    other: Place,
-)
-    requires within { Within place first.now }
-    requires within_2 { Within other second.now }
-{
-    show_placed(rt, first, place, second, other);
-}
-
 fn run_case(rt: &impl Print, score: &[u8], edits: &[u8], bank: &[u8]) {
-    let mut printed = [0u8; PRINTED_ROOM];
-    let mut first = [0u8; FILE_ROOM];
-    let mut second = [0u8; FILE_ROOM];
-    let r = retake_lib::run(score, edits, bank, &mut printed, &mut first, &mut second);
-    let end = r.printed;
-    let files = r.files;
-    say(rt, &printed[..end]);
-    match files {
-        Files::Nothing => {}
-        Files::Both(place, other) => show_files(rt, &first, place, &second, other),
+    let written = retake_lib::run(score, edits, bank);
+    say(rt, written.printed.as_str().as_bytes());
+    if let Some(files) = &written.files {
+        show_files(rt, files);
     }
     say(rt, b"\n");
 }
@@ -110,6 +80,6 @@ fn main(rt: HostRuntime) {
     let mut input = [0u8; INPUT_ROOM];
     let mut bank = [0u8; BANK_ROOM];
     let size = read_input(&rt, &mut input);
-    fill_bytes(1, &mut bank);
+    fill(1, &mut bank);
     run_all(&rt, &input[..size], &bank);
 }

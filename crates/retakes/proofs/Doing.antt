@@ -1,32 +1,25 @@
 -- A call on any take, `Retakes`: by the law of runs over the take with its places moved, with the stop's three reasons read off its test.
-use mathlib.Core.Path.{◌≡◌, refl, sym, ap, ◌∙◌, subst}
-use mathlib.Core.List.{List}
-use mathlib.Core.Bool.{Bool, true, false, ◌||◌, true≢false}
-use mathlib.Core.Logic.{◌⊎◌, inl, inr}
-use Prim.Native.Nat.{ℕ, ◌+◌, ◌-◌, ◌*◌, ◌≤◌, ◌<◌}
-use native.Mathlib.Nat.{le_refl}
-use native.Mathlib.Omega.{arith}
-use borrow.Author.Tests.{eq-eqb, ne_eqb, eqb-true, le-ltb}
-use lib.Dec.{eqb}
-use lib.ListN.{length}
+use Rattle.std.proofs.Common.{◌≡◌, refl, sym, ap, ◌∙◌, subst, List, Bool, true, false, ◌||◌, true≢false, ◌⊎◌, inl, inr, ℕ, ◌+◌, ◌-◌, ◌*◌, ◌≤◌, ◌<◌, le_refl, arith, eq-eqb, eqb-true, le-ltb, eqb, length, Ok, Err}
 use Rattle.lists.specs.Lists.{same}
 use Rattle.lists.proofs.Copying.{same_eq, same_refl}
-use Rattle.lists.proofs.Cases.{le_or_lt}
+use Rattle.std.proofs.lemmas.Bool.{cases_lt, false_from_ne_true}
 use Rattle.lists.proofs.Places.{Outside, put_same}
 use Rattle.lists.proofs.Shifts.{past}
 use Rattle.utils.specs.Holds.{total}
 use Rattle.utils.specs.declared.holds.Holds.{Holds}
 use Rattle.voice.specs.Voice.{kept_count}
 use Rattle.score.specs.Rows.{row_words, word_for, restart, row_at, restarts, remove_row}
+use Rattle.score.specs.Numbers.{accepted}
 use Rattle.score.specs.declared.refusal.Refusal.{Refusal}
 use Rattle.rows.specs.Rows.{Setup, Take, row_in, words_before, Run, idle, stops_of, run_of}
 use Rattle.rows.proofs.Ending.{not_the_end}
-use Rattle.runs.proofs.Turns.{SameLengths}
-use Rattle.refusals.specs.Calls.{Call, render, edit, insert, remove, count_after, rows_after, position}
-use Rattle.refusals.proofs.Accepted.{Accepted, accepted}
-use Rattle.take.specs.declared.Answer.TheVariants.{Done}
-use Rattle.take.specs.Take.{result_of, Outcome, refused_by, ran, moved_by, stretch_end, renders_nothing, done_of}
-use Rattle.take.proofs.Calls.{call_refused, call_done, render_holding, edit_retakable, insert_insertable, remove_removable}
+use Rattle.refusals.specs.declared.Call.{Call}
+use Rattle.refusals.specs.declared.Call.TheVariants.{Render, Edit, Insert, Remove}
+use Rattle.refusals.specs.Calls.{count_after, rows_after, position}
+use Rattle.refusals.proofs.Accepted.{Accepted}
+use Rattle.refusals.proofs.Accepted as known
+use Rattle.take.specs.Take.{Outcome, refused_by, ran, moved_by, stretch_end, renders_nothing, done_of, call_of}
+use Rattle.take.proofs.Calls.{render_holding, edit_retakable, insert_insertable, remove_removable}
 use Rattle.retakes.specs.Retakes.{
   Reel,
   reel,
@@ -47,6 +40,7 @@ use Rattle.retakes.specs.Retakes.{
   Retaken,
   Retakes,
 }
+use Rattle.runs.specs.Inner.{SameLengths}
 use Rattle.retakes.proofs.Takes.{Roomy, roomy_still, Elsewhere, words_elsewhere}
 use Rattle.retakes.proofs.Runs.{before_same, Ran, run_ran}
 use Rattle.retakes.proofs.Moves.{Moved, score_laid, moved}
@@ -82,11 +76,7 @@ module _ (n : ℕ) (rows : List ℕ) (old new : ℕ → List ℕ) (j : ℕ) wher
       or_last false false = refl
 
 differs : (xs ys : List ℕ) → (xs ≡ ys → ⊥) → same xs ys ≡ false
-differs xs ys h = go (same xs ys) (same_eq xs ys)
-  where
-    go : (b : Bool) → (b ≡ true → xs ≡ ys) → b ≡ false
-    go true f = absurd (h (f refl))
-    go false f = refl
+differs xs ys h = false_from_ne_true (same xs ys) (λ e. h (same_eq xs ys e))
 
 -- ---- What an accepted call does.
 
@@ -142,7 +132,7 @@ module _ (s : Setup) (n : ℕ) (rows : List ℕ) (t : Take) (c : Call) where
           least = omega (arith, d.least, q.low);
           most = d.most;
           stops = stop_why n' rows' old (words_before s u.kept) j (sym (asks j d.least d.most) ∙ d.stops);
-          smallest = λ i x y. smallest d asks i x y (le_or_lt (stretch_end n c) i);
+          smallest = λ i x y. smallest d asks i x y (cases_lt i (stretch_end n c));
         };
         since = omega arith;
         count = rows_are;
@@ -154,9 +144,9 @@ module _ (s : Setup) (n : ℕ) (rows : List ℕ) (t : Take) (c : Call) where
     where
       smallest : Ran s rows' n' (position c) (stretch_end n c) t' run
           → ((i : ℕ) → stretch_end n c ≤ i → i ≤ n' → stops_of n' rows' i (same (words_before s t'.kept i) (words_before s run.left.kept i)) ≡ stops_of n' rows' i (same (old i) (words_before s run.left.kept i)))
-          → (i : ℕ) → lowest_stop n c ≤ i → i < position c + run.report.rows → (stretch_end n c ≤ i) ⊎ (i < stretch_end n c) → Stop n' rows' old (words_before s run.left.kept) i → ⊥
-      smallest d asks i x y (inl l) = stop_not n' rows' old (words_before s run.left.kept) i (sym (asks i l (omega (arith, d.most))) ∙ d.smallest i l y)
-      smallest d asks i x y (inr l) = q.skips run.left (λ k z. words_elsewhere s.frames (position c) (position c + run.report.rows) t' run.left d.elsewhere k (inl z)) i x l
+          → (i : ℕ) → lowest_stop n c ≤ i → i < position c + run.report.rows → (i < stretch_end n c) ⊎ (stretch_end n c ≤ i) → Stop n' rows' old (words_before s run.left.kept) i → ⊥
+      smallest d asks i x y (inr l) = stop_not n' rows' old (words_before s run.left.kept) i (sym (asks i l (omega (arith, d.most))) ∙ d.smallest i l y)
+      smallest d asks i x y (inl l) = q.skips run.left (λ k z. words_elsewhere s.frames (position c) (position c + run.report.rows) t' run.left d.elsewhere k (inl z)) i x l
 
   -- The take that it leaves is as long.
   pub roomy_after : Moved s n rows t c → (r : Run) → Did r → Roomy s n' rows' r.left
@@ -179,25 +169,25 @@ module _ (s : Setup) (n : ℕ) (rows : List ℕ) (t : Take) (c : Call) where
 -- ---- Each call.
 
 module _ (s : Setup) (n : ℕ) (rows : List ℕ) (t : Take) where
-  render_does : Accepted s n rows t render → Does s n rows t render
+  render_does : Accepted s n rows t Render → Does s n rows t Render
   unfolding Five count_after position stretch_end lowest_stop renders_nothing
   render_does a =
       record {
-        run = run s n rows t render;
-        is = done_runs s n rows t render refl;
+        run = run s n rows t Render;
+        is = done_runs s n rows t Render refl;
         did =
-            did_run s n rows t render (moved s n rows t render tt a)
+            did_run s n rows t Render (moved s n rows t Render tt a)
             (record { starts = (render_holding s n rows t a).0; ends = le_refl n; low = le_refl n; skips = λ u f i x y. absurd (omega arith) });
       }
 
-  edit_does : (k : ℕ) (row : List ℕ) → length row ≡ row_words → (row_at rows k ≡ row → ⊥) → Accepted s n rows t (edit k row) → Does s n rows t (edit k row)
+  edit_does : (k : ℕ) (row : List ℕ) → length row ≡ row_words → (row_at rows k ≡ row → ⊥) → Accepted s n rows t (Edit k row) → Does s n rows t (Edit k row)
   unfolding Five count_after position stretch_end lowest_stop renders_nothing
   edit_does k row five w a =
       record {
-        run = run s n rows t (edit k row);
-        is = done_runs s n rows t (edit k row) (differs (row_at rows k) row w);
+        run = run s n rows t (Edit k row);
+        is = done_runs s n rows t (Edit k row) (differs (row_at rows k) row w);
         did =
-            did_run s n rows t (edit k row) (moved s n rows t (edit k row) five a)
+            did_run s n rows t (Edit k row) (moved s n rows t (Edit k row) five a)
             (record {
               starts = omega arith;
               ends = omega (arith, (edit_retakable s n rows t k row a).below);
@@ -206,14 +196,14 @@ module _ (s : Setup) (n : ℕ) (rows : List ℕ) (t : Take) where
             });
       }
 
-  insert_does : (p : ℕ) (row : List ℕ) → length row ≡ row_words → Accepted s n rows t (insert p row) → Does s n rows t (insert p row)
+  insert_does : (p : ℕ) (row : List ℕ) → length row ≡ row_words → Accepted s n rows t (Insert p row) → Does s n rows t (Insert p row)
   unfolding Five count_after position stretch_end lowest_stop renders_nothing
   insert_does p row five a =
       record {
-        run = run s n rows t (insert p row);
-        is = done_runs s n rows t (insert p row) refl;
+        run = run s n rows t (Insert p row);
+        is = done_runs s n rows t (Insert p row) refl;
         did =
-            did_run s n rows t (insert p row) (moved s n rows t (insert p row) five a)
+            did_run s n rows t (Insert p row) (moved s n rows t (Insert p row) five a)
             (record {
               starts = omega arith;
               ends = omega (arith, (insert_insertable s n rows t p row a).positioned);
@@ -224,9 +214,9 @@ module _ (s : Setup) (n : ℕ) (rows : List ℕ) (t : Take) where
 
   -- ---- A removal: before the row now there stand the words that stood before the removed one; where it came from, those behind it.
 
-  module _ (p : ℕ) (a : Accepted s n rows t (remove p)) where
+  module _ (p : ℕ) (a : Accepted s n rows t (Remove p)) where
     abbrev C : Call
-    C = remove p
+    C = Remove p
 
     m : Moved s n rows t C
     unfolding Five
@@ -307,49 +297,48 @@ module _ (s : Setup) (n : ℕ) (rows : List ℕ) (t : Take) where
 -- An edit changes words, or it does not.
 pub unchanging_or_not : (s : Setup) (o : Reel) (c : Call) → Unchanging o c ⊎ (Unchanging o c → ⊥)
 unfolding Unchanging
-unchanging_or_not s o render = inr (λ v. v)
-unchanging_or_not s o (edit k row) = go (same (row_at o.rows k) row) refl
+unchanging_or_not s o Render = inr (λ v. v)
+unchanging_or_not s o (Edit k row) = go (same (row_at o.rows k) row) refl
   where
     go : (b : Bool) → same (row_at o.rows k) row ≡ b → (row_at o.rows k ≡ row) ⊎ (row_at o.rows k ≡ row → ⊥)
     go true e = inl (same_eq (row_at o.rows k) row e)
     go false e = inr (λ w. true≢false (sym (rw w (same_refl row)) ∙ e))
-unchanging_or_not s o (insert p row) = inr (λ v. v)
-unchanging_or_not s o (remove p) = inr (λ v. v)
+unchanging_or_not s o (Insert p row) = inr (λ v. v)
+unchanging_or_not s o (Remove p) = inr (λ v. v)
 
 does : (s : Setup) (o : Reel) (c : Call) → Five c → (Unchanging o c → ⊥) → Accepted s o.count o.rows o.left c → Does s o.count o.rows o.left c
 unfolding Five Unchanging
-does s o render five w a = render_does s o.count o.rows o.left a
-does s o (edit k row) five w a = edit_does s o.count o.rows o.left k row five w a
-does s o (insert p row) five w a = insert_does s o.count o.rows o.left p row five a
-does s o (remove p) five w a = remove_does s o.count o.rows o.left p a
+does s o Render five w a = render_does s o.count o.rows o.left a
+does s o (Edit k row) five w a = edit_does s o.count o.rows o.left k row five w a
+does s o (Insert p row) five w a = insert_does s o.count o.rows o.left p row five a
+does s o (Remove p) five w a = remove_does s o.count o.rows o.left p a
 
 module _ (s : Setup) (o : Reel) (c : Call) where
-  abbrev r : Refusal
-  r = refusal_in s o c
-
   -- ---- Refused.
 
-  module _ (h : r.number ≡ 0 → ⊥) where
+  module _ (r : Refusal) (h : refusal_in s o c ≡ Err r) where
     refused_is : called s o c ≡ refused_by r o.rows o.left
-    refused_is = call_refused s o.count o.rows o.left c h
+    unfolding call_of
+    refused_is = rw h
 
     pub next_refused : next s o c ≡ o
-    unfolding next result_of
-    next_refused = rw (refused_is, ne_eqb r.number 0 h)
+    unfolding next
+    next_refused = rw refused_is
 
   -- ---- Accepted.
 
-  module _ (z : r.number ≡ 0) where
+  module _ (z : refusal_in s o c ≡ accepted) where
     pub is_accepted : Accepted s o.count o.rows o.left c
-    is_accepted = accepted s o.count o.rows o.left c z
+    is_accepted = known.accepted s o.count o.rows o.left c z
 
     called_is : (x : Run) → done_of s o.count o.rows o.left c ≡ ran (rows_after o.count o.rows c) x
         → called s o c ≡ ran (rows_after o.count o.rows c) x
-    called_is x q = call_done s o.count o.rows o.left c z ∙ q
+    unfolding call_of
+    called_is x q = rw z q
 
     next_is : (x : Run) → called s o c ≡ ran (rows_after o.count o.rows c) x
         → next s o c ≡ reel (count_after o.count c) (rows_after o.count o.rows c) x.left
-    unfolding next result_of
+    unfolding next
     next_is x q = rw q
 
     module _ (five : Five c) (w : Unchanging o c → ⊥) where
@@ -389,7 +378,7 @@ module _ (s : Setup) (o : Reel) (c : Call) where
           record {
             reports =
                 ap (λ (x : Outcome). x.answer) call_is
-                ∙ ap Done
+                ∙ ap Ok
                 (ap (λ (x : ℕ). record { rows = x; holds = doing.run.report.holds }) doing.did.count
                 ∙ ap (λ (x : Holds). record { rows = doing.did.stop - position c; holds = x }) q);
             count = ap (λ (x : Reel). x.count) after_is;
@@ -413,18 +402,18 @@ module _ (s : Setup) (o : Reel) (c : Call) where
 pub unchanging_row : (s : Setup) (o : Reel) (c : Call) → Five c → Unchanging o c
     → o ≡ reel (count_after o.count c) (rows_after o.count o.rows c) (moved_by s o.count o.left c)
 unfolding Five Unchanging count_after rows_after moved_by
-unchanging_row s o render five w = absurd w
-unchanging_row s o (edit k row) five w = ap (λ (x : List ℕ). reel o.count x o.left) (sym (put_same o.rows row (k * row_words) row_words five w))
-unchanging_row s o (insert p row) five w = absurd w
-unchanging_row s o (remove p) five w = absurd w
+unchanging_row s o Render five w = absurd w
+unchanging_row s o (Edit k row) five w = ap (λ (x : List ℕ). reel o.count x o.left) (sym (put_same o.rows row (k * row_words) row_words five w))
+unchanging_row s o (Insert p row) five w = absurd w
+unchanging_row s o (Remove p) five w = absurd w
 
-module _ (s : Setup) (o : Reel) (c : Call) (five : Five c) (w : Unchanging o c) (z : (refusal_in s o c).number ≡ 0) where
+module _ (s : Setup) (o : Reel) (c : Call) (five : Five c) (w : Unchanging o c) (z : refusal_in s o c ≡ accepted) where
   nothing_to_do : (c : Call) → Unchanging o c → renders_nothing s o.count o.rows o.left c ≡ true
   unfolding Unchanging renders_nothing
-  nothing_to_do render v = absurd v
-  nothing_to_do (edit k row) v = rw v (same_refl row)
-  nothing_to_do (insert p row) v = absurd v
-  nothing_to_do (remove p) v = absurd v
+  nothing_to_do Render v = absurd v
+  nothing_to_do (Edit k row) v = rw v (same_refl row)
+  nothing_to_do (Insert p row) v = absurd v
+  nothing_to_do (Remove p) v = absurd v
 
   unchanging_is : called s o c ≡ ran o.rows (idle o.left)
   unchanging_is =
@@ -434,10 +423,9 @@ module _ (s : Setup) (o : Reel) (c : Call) (five : Five c) (w : Unchanging o c) 
   next_unchanging = next_is s o c z _ (called_is s o c z _ (done_idles s o.count o.rows o.left c (nothing_to_do c w))) ∙ sym (unchanging_row s o c five w)
 
 pub retakes : Retakes
-unfolding result_of
 retakes s o c five =
     record {
-      refuses = λ h. (ap (λ (x : Outcome). result_of x.answer) (refused_is s o c h), next_refused s o c h);
+      refuses = λ r h. (ap (λ (x : Outcome). x.answer) (refused_is s o c r h), next_refused s o c r h);
       unchanged = λ z w. (ap (λ (x : Outcome). x.answer) (unchanging_is s o c five w z), next_unchanging s o c five w z);
       changed = λ z w. retaken s o c z five w;
     }

@@ -1,20 +1,15 @@
 -- Rows that stand as made, from row 0 on, are the fresh rendering's: by induction each starts from the words that the fresh one keeps.
-use mathlib.Core.Path.{◌≡◌, refl, sym, ap, ◌∙◌}
-use mathlib.Core.List.{List, [], ◌∷◌, ◌++◌}
-use Prim.Native.Nat.{ℕ, zero, suc, ◌+◌, ◌*◌, ◌≤◌, ◌<◌}
-use native.Mathlib.Nat.{add-zero, zero-add, suc-mul, zero-mul}
-use native.Mathlib.Omega.{arith}
-use lib.ListN.{length, get_or, take, drop, length-drop, take-append-drop}
-use lib.Seq.{length-take-le, drop-cons, drop-drop}
-use Rattle.lists.specs.Lists.{part, put}
+use Rattle.std.proofs.Common.{◌≡◌, refl, sym, ap, ◌∙◌, List, [], ◌∷◌, ◌++◌, ℕ, zero, suc, ◌+◌, ◌*◌, ◌≤◌, ◌<◌, add-zero, zero-add, suc-mul, zero-mul, arith, length, get_or, take, drop, length-drop, take-append-drop, length-take-le, drop-cons, drop-drop}
+use Rattle.std.proofs.lemmas.List.{nil_from_length}
+use Rattle.lists.specs.Lists.{part}
 use Rattle.lists.proofs.Shifts.{laid_is, part_of_cut}
 use Rattle.voice.specs.declared.State.{State}
 use Rattle.voice.specs.Voice.{kept_count, voice_of, state_of}
 use Rattle.voice.proofs.Laws.{fresh_back}
 use Rattle.score.specs.Rows.{row_words, row_at}
-use Rattle.rows.specs.Rows.{Setup, Take, lent, fresh_start, kept_at, before_row, words_before, Row, row_from, row_by, row_in}
+use Rattle.rows.specs.Rows.{Setup, Take, fresh_start, kept_at, before_row, words_before, Row, row_from, row_by, row_in}
 use Rattle.retakes.specs.Retakes.{fresh_from, fresh, joined, take_of, no_row, before_in, words_at, Past, made_from, laid_over, cut}
-use Rattle.retakes.proofs.Takes.{Roomy}
+use Rattle.retakes.proofs.Takes.{Roomy, take_is}
 use Rattle.retakes.proofs.Runs.{Made}
 
 module _ (s : Setup) (rows : List ℕ) where
@@ -77,15 +72,11 @@ module _ (s : Setup) (rows : List ℕ) where
 
 -- ---- All parts.
 
-empty : (l : List ℕ) → length l ≡ 0 → l ≡ []
-empty [] e = refl
-empty (x ∷ l) e = absurd (omega arith)
-
 -- Words whose parts are those of some rows are the rows' words one after the other.
 parts_joined : (w : ℕ) (of : Take → List ℕ) (rs : List Row) (l : List ℕ) → length l ≡ length rs * w
     → ((i : ℕ) → i < length rs → part w l i ≡ of (get_or rs i no_row).words) → l ≡ joined of rs
 unfolding joined
-parts_joined w of [] l e p = empty l (e ∙ zero-mul w)
+parts_joined w of [] l e p = nil_from_length l (e ∙ zero-mul w)
 parts_joined w of (r ∷ rs) l e p =
     let z : take w l ≡ of r.words = ap (λ (m : ℕ). take w (drop m l)) (sym (zero-mul w)) ∙ p 0 (omega arith) in
     let m : length l ≡ length rs * w + w = e ∙ suc-mul (length rs) w in
@@ -112,18 +103,18 @@ module _ (s : Setup) (rows : List ℕ) (n : ℕ) (t : Take) (z : Roomy s n rows 
 
   pub cut_fresh : cut s n t ≡ take_of F
   cut_fresh =
-      ap (λ (x : List ℕ). lent x (take (n * s.frames) t.aux) (take (n * kept_count) t.kept)) (begins s.frames (λ (w : Take). w.out) t.out z.out_room (λ i h. refl))
-      ∙ ap (λ (x : List ℕ). lent (take_of F).out x (take (n * kept_count) t.kept)) (begins s.frames (λ (w : Take). w.aux) t.aux z.aux_room (λ i h. refl))
-      ∙ ap (λ (x : List ℕ). lent (take_of F).out (take_of F).aux x) (begins kept_count (λ (w : Take). w.kept) t.kept z.kept_room (λ i h. refl))
+      take_is (cut s n t) (take_of F)
+      (begins s.frames (λ (w : Take). w.out) t.out z.out_room (λ i h. refl))
+      (begins s.frames (λ (w : Take). w.aux) t.aux z.aux_room (λ i h. refl))
+      (begins kept_count (λ (w : Take). w.kept) t.kept z.kept_room (λ i h. refl))
 
   -- So what was past the count before, and still is, has it laid over it.
   pub laid_fresh : (old : Take) → Past s.frames n old t → t ≡ laid_over old (take_of F)
   laid_fresh old p =
       let c = cut_fresh in
-      ap (λ (x : List ℕ). lent x t.aux t.kept) (laid_is (n * s.frames) old.out t.out (take_of F).out z.out_room (ap (λ (u : Take). u.out) c) p.out)
-      ∙ ap (λ (x : List ℕ). lent (put old.out 0 (take_of F).out) x t.kept)
+      take_is t (laid_over old (take_of F))
+      (laid_is (n * s.frames) old.out t.out (take_of F).out z.out_room (ap (λ (u : Take). u.out) c) p.out)
       (laid_is (n * s.frames) old.aux t.aux (take_of F).aux z.aux_room (ap (λ (u : Take). u.aux) c) p.aux)
-      ∙ ap (λ (x : List ℕ). lent (put old.out 0 (take_of F).out) (put old.aux 0 (take_of F).aux) x)
       (laid_is (n * kept_count) old.kept t.kept (take_of F).kept z.kept_room (ap (λ (u : Take). u.kept) c) p.kept)
 
 -- ---- A fresh rendering reads the rows below the count alone.

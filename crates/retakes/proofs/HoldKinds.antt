@@ -1,9 +1,5 @@
 -- What any call reports has the kinds of its voice: each row's holds have them, and sums do.
-use Prim.Native.Nat.{ℕ, zero, suc, ◌+◌}
-use mathlib.Core.Path.{subst}
-use mathlib.Core.Bool.{Bool, true, false, cond}
-use mathlib.Core.List.{List}
-use lib.Dec.{eqb}
+use Rattle.std.proofs.Common.{ℕ, zero, suc, ◌+◌, Bool, cond, List, eqb, Ok, Err, IfOk}
 use Rattle.lists.specs.Lists.{same}
 use Rattle.utils.specs.Units.{a0_of}
 use Rattle.utils.specs.declared.holds.Holds.{Holds}
@@ -14,12 +10,11 @@ use Rattle.voice.specs.Voice.{voice_of}
 use Rattle.voice.specs.HoldKinds.{KindsOn}
 use Rattle.voice.proofs.RowKinds.{row_kinds}
 use Rattle.score.specs.Rows.{row_at, restarts}
+use Rattle.score.specs.Numbers.{Tested}
 use Rattle.rows.specs.Rows.{Setup, Take, start_of, parameters_of, row_from, row_by, row_in, words_before, kept_at, put_words, both, Run, stops_of, run_of}
-use Rattle.refusals.specs.Calls.{Call}
+use Rattle.refusals.specs.declared.Call.{Call}
 use Rattle.refusals.specs.Refusals.{refusal_of}
-use Rattle.take.specs.declared.Answer.{Answer}
-use Rattle.take.specs.declared.Answer.TheVariants.{Done, Refused}
-use Rattle.take.specs.Take.{refused_by, renders_nothing, done_of, call_of}
+use Rattle.take.specs.Take.{tested, renders_nothing, done_of, call_of}
 use Rattle.retakes.specs.Retakes.{HoldKinds}
 
 kinds_summed : (v : Voice) → Summed (KindsOn v)
@@ -52,19 +47,13 @@ module _ (s : Setup) where
       (one_run (stops_of n rows (a + 1) (same (kept_at t.kept a) m.words.kept)) _ _ none (run_on rows n l (a + 1) (a + 2) t'))
       (run_on rows n l (a + 1) e t'))
 
--- What an answer reports, if it reports anything.
-unfoldable Reported : Setup → Answer → Type 0
-Reported s (Done p) = KindsOn (voice_of s.instrument) p.holds
-Reported s (Refused r) = Unit {0}
-
-call_on : (s : Setup) (n : ℕ) (rows : List ℕ) (t : Take) (c : Call) → Reported s (call_of s n rows t c).answer
-unfolding call_of done_of Reported
-call_on s n rows t c = go (eqb (refusal_of s n rows t c).number 0)
+call_on : (s : Setup) (n : ℕ) (rows : List ℕ) (t : Take) (c : Call) → IfOk (call_of s n rows t c).answer (λ p. KindsOn (voice_of s.instrument) p.holds)
+unfolding call_of done_of
+call_on s n rows t c = go (refusal_of s n rows t c)
   where
-    go : (b : Bool) → Reported s (cond b (done_of s n rows t c) (refused_by (refusal_of s n rows t c) rows t)).answer
-    go true = one_run s (renders_nothing s n rows t c) _ _ (kinds_summed (voice_of s.instrument)).of_none (run_on s _ _ _ _ _ _)
-    go false = tt
+    go : (r : Tested) → IfOk (tested r (done_of s n rows t c) rows t).answer (λ p. KindsOn (voice_of s.instrument) p.holds)
+    go (Ok u) = one_run s (renders_nothing s n rows t c) _ _ (kinds_summed (voice_of s.instrument)).of_none (run_on s _ _ _ _ _ _)
+    go (Err r) = tt
 
 pub hold_kinds : HoldKinds
-unfolding Reported
-hold_kinds s o c p e = subst (Reported s) e (call_on s o.count o.rows o.left c)
+hold_kinds s o c p e = rw e at (call_on s o.count o.rows o.left c)

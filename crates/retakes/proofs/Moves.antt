@@ -1,15 +1,7 @@
 -- What each accepted call makes of the rows and of the take before anything is rendered: every row but its own is as it was, where it came from.
-use mathlib.Core.Path.{◌≡◌, refl, sym, ap, ◌∙◌}
-use mathlib.Core.List.{List}
-use mathlib.Core.Logic.{◌⊎◌, inl, inr}
-use Prim.Native.Nat.{ℕ, zero, suc, ◌+◌, ◌-◌, ◌*◌, ◌≤◌, ◌<◌}
-use native.Mathlib.Nat.{mul-le-mul_right}
-use native.Mathlib.Omega.{arith}
-use borrow.Author.Tests.{lt-ltb, le-ltb}
-use lib.ListN.{length, take, drop, length-drop}
-use lib.Seq.{length-take-le}
+use Rattle.std.proofs.Common.{◌≡◌, refl, sym, ap, ◌∙◌, List, ◌⊎◌, inl, inr, ℕ, zero, suc, ◌+◌, ◌-◌, ◌*◌, ◌≤◌, ◌<◌, mul-le-mul_right, arith, lt-ltb, le-ltb, length, take, drop, length-drop, length-take-le}
 use Rattle.lists.specs.Lists.{put}
-use Rattle.lists.proofs.Cases.{le_or_lt}
+use Rattle.std.proofs.lemmas.Bool.{cases_lt}
 use Rattle.lists.proofs.Places.{Outside, part_end, part_outside, put_outside, put_long}
 use Rattle.lists.proofs.Shifts.{
   past,
@@ -36,7 +28,9 @@ use Rattle.voice.proofs.Laws as voice
 use Rattle.score.specs.Rows.{row_words, row_at, put_row, insert_row, remove_row}
 use Rattle.rows.specs.Rows.{Setup, Take, fresh_start, kept_at, before_row, words_before, room_at, closed_at}
 use Rattle.runs.specs.Inner.{Holding}
-use Rattle.refusals.specs.Calls.{Call, render, edit, insert, remove, count_after, rows_after, position}
+use Rattle.refusals.specs.declared.Call.{Call}
+use Rattle.refusals.specs.declared.Call.TheVariants.{Render, Edit, Insert, Remove}
+use Rattle.refusals.specs.Calls.{count_after, rows_after, position}
 use Rattle.refusals.proofs.Accepted.{Accepted}
 use Rattle.take.specs.Take.{moved_by}
 use Rattle.take.proofs.Calls.{render_holding, edit_retakable, insert_insertable, remove_removable}
@@ -69,7 +63,7 @@ score_laid s n rows t c m = laid_is (count_after n c * row_words) rows (rows_aft
 
 -- ---- Whole rendering moves nothing.
 
-moved_render : (s : Setup) (n : ℕ) (rows : List ℕ) (t : Take) → Accepted s n rows t render → Moved s n rows t render
+moved_render : (s : Setup) (n : ℕ) (rows : List ℕ) (t : Take) → Accepted s n rows t Render → Moved s n rows t Render
 unfolding count_after rows_after moved_by came lowest_stop position score_with
 moved_render s n rows t a =
     let h = (render_holding s n rows t a).1 in
@@ -90,7 +84,7 @@ moved_render s n rows t a =
 
 -- ---- An edit puts its row in its place.
 
-moved_edit : (s : Setup) (n : ℕ) (rows : List ℕ) (t : Take) (k : ℕ) (row : List ℕ) → length row ≡ row_words → Accepted s n rows t (edit k row) → Moved s n rows t (edit k row)
+moved_edit : (s : Setup) (n : ℕ) (rows : List ℕ) (t : Take) (k : ℕ) (row : List ℕ) → length row ≡ row_words → Accepted s n rows t (Edit k row) → Moved s n rows t (Edit k row)
 unfolding count_after rows_after moved_by came lowest_stop position score_with
 moved_edit s n rows t k row five a =
     let r = edit_retakable s n rows t k row a in
@@ -116,17 +110,17 @@ moved_edit s n rows t k row five a =
 -- ---- An insertion makes a place.
 
 module _ (p : ℕ) (row : List ℕ) where
-  stays_below : (i : ℕ) → i ≤ p → came (insert p row) i ≡ i
+  stays_below : (i : ℕ) → i ≤ p → came (Insert p row) i ≡ i
   unfolding came
   stays_below i h = rw (le-ltb p i h)
 
-  was_below : (i : ℕ) → p < i → came (insert p row) i ≡ i - 1
+  was_below : (i : ℕ) → p < i → came (Insert p row) i ≡ i - 1
   unfolding came
   was_below i h = rw (lt-ltb p i h)
 
-module _ (s : Setup) (n : ℕ) (rows : List ℕ) (t : Take) (p : ℕ) (row : List ℕ) (five : length row ≡ row_words) (a : Accepted s n rows t (insert p row)) where
+module _ (s : Setup) (n : ℕ) (rows : List ℕ) (t : Take) (p : ℕ) (row : List ℕ) (five : length row ≡ row_words) (a : Accepted s n rows t (Insert p row)) where
   abbrev C : Call
-  C = insert p row
+  C = Insert p row
 
   abbrev made : Take
   made = room_at s.frames (fresh_start s) n t p
@@ -169,19 +163,19 @@ module _ (s : Setup) (n : ℕ) (rows : List ℕ) (t : Take) (p : ℕ) (row : Lis
 
   -- Before the row behind the new one stand the words that stood before it; before a later one those of the row before it.
   before_by : (j : ℕ) → p < j → j ≤ n + 1 → words_before s made.kept j ≡ words_before s t.kept (came C j)
-  before_by j l m = go j l m (le_or_lt j (p + 1))
+  before_by j l m = go j l m (cases_lt (p + 1) j)
     where
       here : words_before s made.kept (suc p) ≡ words_before s t.kept p
       here = unfold before_row in insert_here kept_count t.kept p n (words_before s t.kept p) at_most h.kept_room before_long
 
-      go : (j : ℕ) → p < j → j ≤ n + 1 → (j ≤ p + 1) ⊎ (p + 1 < j) → words_before s made.kept j ≡ words_before s t.kept (came C j)
-      go j l m (inl x) =
+      go : (j : ℕ) → p < j → j ≤ n + 1 → (p + 1 < j) ⊎ (j ≤ p + 1) → words_before s made.kept j ≡ words_before s t.kept (came C j)
+      go j l m (inr x) =
           let e : j ≡ suc p = omega arith in
           let f : came C j ≡ p = was_below p row j l ∙ omega arith in
           ap (λ (i : ℕ). words_before s made.kept i) e ∙ here ∙ ap (λ (i : ℕ). words_before s t.kept i) (sym f)
-      go zero l m (inr x) = absurd (omega arith)
-      go (suc zero) l m (inr x) = absurd (omega arith)
-      go (suc (suc i)) l m (inr x) =
+      go zero l m (inl x) = absurd (omega arith)
+      go (suc zero) l m (inl x) = absurd (omega arith)
+      go (suc (suc i)) l m (inl x) =
           let f : came C (suc (suc i)) ≡ suc i = was_below p row (suc (suc i)) l ∙ omega arith in
           let q : suc i - 1 ≡ i = omega arith in
           later i (insert_above kept_count t.kept p n (words_before s t.kept p) at_most h.kept_room before_long (suc i) (omega arith) (omega arith) ∙ ap (λ (y : ℕ). kept_at t.kept y) q)
@@ -225,15 +219,15 @@ module _ (s : Setup) (n : ℕ) (rows : List ℕ) (t : Take) (p : ℕ) (row : Lis
 -- ---- A removal closes one.
 
 module _ (p : ℕ) where
-  stays : (i : ℕ) → i < p → came (remove p) i ≡ i
+  stays : (i : ℕ) → i < p → came (Remove p) i ≡ i
   unfolding came
   stays i h = rw (lt-ltb i p h)
 
-  was_above : (i : ℕ) → p ≤ i → came (remove p) i ≡ i + 1
+  was_above : (i : ℕ) → p ≤ i → came (Remove p) i ≡ i + 1
   unfolding came
   was_above i h = rw (le-ltb i p h)
 
-module _ (s : Setup) (n : ℕ) (rows : List ℕ) (t : Take) (p : ℕ) (a : Accepted s n rows t (remove p)) where
+module _ (s : Setup) (n : ℕ) (rows : List ℕ) (t : Take) (p : ℕ) (a : Accepted s n rows t (Remove p)) where
   abbrev closed : Take
   closed = closed_at s.frames n t p
 
@@ -243,11 +237,11 @@ module _ (s : Setup) (n : ℕ) (rows : List ℕ) (t : Take) (p : ℕ) (a : Accep
   below : p < n
   below = (remove_removable s n rows t p a).below
 
-  down_row : (i : ℕ) → (i < p) ⊎ (p ≤ i) → i < n - 1 → row_at (remove_row n rows p) i ≡ row_at rows (came (remove p) i)
+  down_row : (i : ℕ) → (i < p) ⊎ (p ≤ i) → i < n - 1 → row_at (remove_row n rows p) i ≡ row_at rows (came (Remove p) i)
   down_row i (inl l) m = down_below row_words rows p n below full.rows_room i l ∙ ap (λ (j : ℕ). row_at rows j) (sym (stays p i l))
   down_row i (inr l) m = down_above row_words rows p n below full.rows_room i l m ∙ ap (λ (j : ℕ). row_at rows j) (sym (was_above p i l))
 
-  down_words : (i : ℕ) → (i < p) ⊎ (p ≤ i) → i < n - 1 → words_at s.frames closed i ≡ words_at s.frames t (came (remove p) i)
+  down_words : (i : ℕ) → (i < p) ⊎ (p ≤ i) → i < n - 1 → words_at s.frames closed i ≡ words_at s.frames t (came (Remove p) i)
   down_words i (inl l) m =
       rw (
         down_below s.frames t.out p n below full.out_room i l,
@@ -263,16 +257,16 @@ module _ (s : Setup) (n : ℕ) (rows : List ℕ) (t : Take) (p : ℕ) (a : Accep
         was_above p i l,
       )
 
-  down_before : (j : ℕ) → p < j → j ≤ n - 1 → words_before s closed.kept j ≡ words_before s t.kept (came (remove p) j)
+  down_before : (j : ℕ) → p < j → j ≤ n - 1 → words_before s closed.kept j ≡ words_before s t.kept (came (Remove p) j)
   down_before zero l m = absurd (omega arith)
   down_before (suc i) l m =
-      let f : came (remove p) (suc i) ≡ suc (i + 1) = was_above p (suc i) (omega arith) ∙ omega arith in
+      let f : came (Remove p) (suc i) ≡ suc (i + 1) = was_above p (suc i) (omega arith) ∙ omega arith in
       later (down_above kept_count t.kept p n below full.kept_room i (omega arith) (omega arith)) ∙ ap (λ (y : ℕ). words_before s t.kept y) (sym f)
     where
       later : kept_at closed.kept i ≡ kept_at t.kept (i + 1) → words_before s closed.kept (suc i) ≡ words_before s t.kept (suc (i + 1))
       later e = unfold before_row in e
 
-  moved_remove : Moved s n rows t (remove p)
+  moved_remove : Moved s n rows t (Remove p)
   unfolding count_after rows_after moved_by lowest_stop position score_with
   moved_remove =
       let m : n - 1 ≤ n = omega arith in
@@ -302,7 +296,7 @@ module _ (s : Setup) (n : ℕ) (rows : List ℕ) (t : Take) (p : ℕ) (a : Accep
         };
       }
     where
-      inside : (i : ℕ) → i < n - 1 → (i < p) ⊎ (p ≤ i) → came (remove p) i < n
+      inside : (i : ℕ) → i < n - 1 → (i < p) ⊎ (p ≤ i) → came (Remove p) i < n
       inside i l (inl x) = omega (arith, stays p i x)
       inside i l (inr x) = omega (arith, was_above p i x)
 
@@ -310,7 +304,7 @@ module _ (s : Setup) (n : ℕ) (rows : List ℕ) (t : Take) (p : ℕ) (a : Accep
 
 pub moved : (s : Setup) (n : ℕ) (rows : List ℕ) (t : Take) (c : Call) → Five c → Accepted s n rows t c → Moved s n rows t c
 unfolding Five
-moved s n rows t render five a = moved_render s n rows t a
-moved s n rows t (edit k row) five a = moved_edit s n rows t k row five a
-moved s n rows t (insert p row) five a = moved_insert s n rows t p row five a
-moved s n rows t (remove p) five a = moved_remove s n rows t p a
+moved s n rows t Render five a = moved_render s n rows t a
+moved s n rows t (Edit k row) five a = moved_edit s n rows t k row five a
+moved s n rows t (Insert p row) five a = moved_insert s n rows t p row five a
+moved s n rows t (Remove p) five a = moved_remove s n rows t p a

@@ -1,25 +1,17 @@
 -- Demand 3, `Demand3` of the definitions in `specs/Retakes.antt`: after an accepted rendering every row stands as made from the words that the
 -- take keeps before it; a call, by what it does to any take, keeps that up; and a take that stands so begins with the fresh rendering's words.
-use mathlib.Core.Path.{◌≡◌, refl, sym, ap, ◌∙◌, subst}
-use mathlib.Core.List.{List, [], ◌∷◌}
-use mathlib.Core.Bool.{Bool, true, false, cond}
-use mathlib.Core.Logic.{◌⊎◌, inl, inr}
-use Prim.Native.Nat.{ℕ, zero, suc, ◌+◌, ◌-◌, ◌*◌, ◌≤◌, ◌<◌}
-use native.Mathlib.Omega.{arith}
-use native.Mathlib.Nat.{eq-or-lt_of_le}
-use borrow.Author.Tests.{eq-eqb, ne_eqb, eqb-true, eqb-false}
-use lib.Dec.{eqb}
-use lib.ListN.{length, take}
-use lib.Seq.{take_all}
-use Rattle.lists.proofs.Cases.{le_or_lt}
+use Rattle.std.proofs.Common.{eq-eqb, ◌≡◌, refl, sym, ap, ◌∙◌, subst, List, [], ◌∷◌, cond, ◌⊎◌, inl, inr, ℕ, zero, suc, ◌+◌, ◌-◌, ◌*◌, ◌≤◌, ◌<◌, arith, eq-or-lt_of_le, length, take, take_all, Ok, Err, IsOk}
+use Rattle.std.proofs.lemmas.Bool.{cases_lt}
 use Rattle.lists.proofs.Shifts.{part_of_cut}
 use Rattle.utils.specs.declared.holds.Holds.{Holds}
 use Rattle.score.specs.Rows.{row_words, word_for, restart, row_at}
 use Rattle.rows.specs.Rows.{Setup, Take, kept_at, before_row, words_before, Row, start_of, row_from, row_by}
-use Rattle.refusals.specs.Calls.{Call, render, count_after, rows_after, position}
-use Rattle.take.specs.declared.Answer.TheVariants.{Done}
-use Rattle.take.specs.Take.{result_of, Outcome, moved_by, call_of}
-use Rattle.take.proofs.Calls.{call_refused}
+use Rattle.refusals.specs.declared.Call.{Call}
+use Rattle.refusals.specs.declared.Call.TheVariants.{Render}
+use Rattle.refusals.specs.Calls.{count_after, rows_after, position}
+use Rattle.score.specs.Numbers.{Tested, accepted}
+use Rattle.score.specs.declared.refusal.Refusal.{Refusal}
+use Rattle.take.specs.Take.{Outcome, moved_by, tested, done_of, call_of}
 use Rattle.retakes.specs.Retakes as claim
 use Rattle.retakes.specs.Retakes.{
   fresh,
@@ -76,15 +68,15 @@ first_alike n rows rows' old new old' new' low j r p q f =
     record {
       least = f.least;
       most = f.most;
-      stops = there (le_or_lt n j) f.stops;
+      stops = there (cases_lt j n) f.stops;
       smallest = λ i a b x. f.smallest i a b (back i a (omega (arith, f.most)) x);
     }
   where
-    there : (n ≤ j) ⊎ (j < n) → Stop n rows old new j → Stop n rows' old' new' j
-    there (inl l) x = inl (omega (arith, f.most))
-    there (inr l) (inl x) = inl x
-    there (inr l) (inr (inl x)) = inr (inl (ap (λ (row : List ℕ). word_for restart row) (r j l) ∙ x))
-    there (inr l) (inr (inr x)) = inr (inr (sym (p j f.least f.most) ∙ x ∙ q j f.most))
+    there : (j < n) ⊎ (n ≤ j) → Stop n rows old new j → Stop n rows' old' new' j
+    there (inr l) x = inl (omega (arith, f.most))
+    there (inl l) (inl x) = inl x
+    there (inl l) (inr (inl x)) = inr (inl (ap (λ (row : List ℕ). word_for restart row) (r j l) ∙ x))
+    there (inl l) (inr (inr x)) = inr (inr (sym (p j f.least f.most) ∙ x ∙ q j f.most))
 
     back : (i : ℕ) → low ≤ i → i < n → Stop n rows' old' new' i → Stop n rows old new i
     back i a l (inl x) = inl x
@@ -116,17 +108,17 @@ is_afresh s o c u m f p =
 
 -- ---- Whole rendering, of any take.
 
-pub five : Five render
+pub five : Five Render
 unfolding Five
 five = tt
 
-module _ (s : Setup) (o : Reel) (z : (refusal_in s o render).number ≡ 0) where
-  pub unchanged_not : Unchanging o render → ⊥
+module _ (s : Setup) (o : Reel) (z : refusal_in s o Render ≡ accepted) where
+  pub unchanged_not : Unchanging o Render → ⊥
   unfolding Unchanging
   unchanged_not v = v
 
-  abbrev did : Does s o.count o.rows o.left render
-  did = doing s o render z five unchanged_not
+  abbrev did : Does s o.count o.rows o.left Render
+  did = doing s o Render z five unchanged_not
 
   pub all_rows : did.did.stop ≡ o.count
   unfolding count_after lowest_stop
@@ -136,19 +128,19 @@ module _ (s : Setup) (o : Reel) (z : (refusal_in s o render).number ≡ 0) where
   unfolding count_after rows_after position
   rendered_made i h = did.did.made i (omega arith) (omega (arith, all_rows))
 
-  pub rendered_stands : Stands s (next s o render)
+  pub rendered_stands : Stands s (next s o Render)
   unfolding count_after rows_after
   rendered_stands =
       let d = did in
-      rw (after_is s o render z five unchanged_not)
-      (record { room = roomy_after s o.count o.rows o.left render (moves s o render z five unchanged_not) d.run d.did; made = rendered_made })
+      rw (after_is s o Render z five unchanged_not)
+      (record { room = roomy_after s o.count o.rows o.left Render (moves s o Render z five unchanged_not) d.run d.did; made = rendered_made })
 
-  rendered_afresh : next s o render ≡ afresh s o render
+  rendered_afresh : next s o Render ≡ afresh s o Render
   rendered_afresh =
-      after_is s o render z five unchanged_not
-      ∙ is_afresh s o render did.run.left (moves s o render z five unchanged_not) (rw (after_is s o render z five unchanged_not) at rendered_stands) (pasts s o render z five unchanged_not)
+      after_is s o Render z five unchanged_not
+      ∙ is_afresh s o Render did.run.left (moves s o Render z five unchanged_not) (rw (after_is s o Render z five unchanged_not) at rendered_stands) (pasts s o Render z five unchanged_not)
 
-  rendered_report : (called s o render).answer ≡ Done (record { rows = o.count; holds = holds_of (fresh_of s o) })
+  rendered_report : (called s o Render).answer ≡ Ok (record { rows = o.count; holds = holds_of (fresh_of s o) })
   unfolding count_after rows_after position
   rendered_report =
       let n = o.count in
@@ -160,8 +152,8 @@ module _ (s : Setup) (o : Reel) (z : (refusal_in s o render).number ≡ 0) where
       did.did.holds
       ∙ ap (λ (l : ℕ). holds_of (made_from s o.rows u.kept l 0)) e
       ∙ ap holds_of (rows_fresh s o.rows n u rendered_made n 0 (omega arith) ∙ f ∙ sym (fresh_cut s n o.rows)) in
-      ap (λ (x : Outcome). x.answer) (call_is s o render z five unchanged_not)
-      ∙ ap Done (ap (λ (x : ℕ). record { rows = x; holds = did.run.report.holds }) (did.did.count ∙ e) ∙ ap (λ (x : Holds). record { rows = n; holds = x }) h)
+      ap (λ (x : Outcome). x.answer) (call_is s o Render z five unchanged_not)
+      ∙ ap Ok (ap (λ (x : ℕ). record { rows = x; holds = did.run.report.holds }) (did.did.count ∙ e) ∙ ap (λ (x : Holds). record { rows = n; holds = x }) h)
 
 -- ---- A call on a take that stands.
 
@@ -172,18 +164,18 @@ record Step (s : Setup) (o : Reel) (c : Call) : Type 0 where
   stands : Stands s (next s o c)
 
 module _ (s : Setup) (o : Reel) (c : Call) (five : Five c) (f : Stands s o) where
-  step_refused : ((refusal_in s o c).number ≡ 0 → ⊥) → Step s o c
-  step_refused h =
-      let q = next_refused s o c h in
+  step_refused : (r : Refusal) → refusal_in s o c ≡ Err r → Step s o c
+  step_refused r h =
+      let q = next_refused s o c r h in
       record {
-        is_right = record { refuses = (retakes s o c five).refuses; unchanged = λ z _. absurd (h z); changed = λ z _. absurd (h z) };
-        is = q ∙ sym (rw (ne_eqb (refusal_in s o c).number 0 h));
+        is_right = record { refuses = (retakes s o c five).refuses; unchanged = λ z _. cc; changed = λ z _. cc };
+        is = q ∙ sym (rw h);
         stands = rw q f;
       }
 
-  module _ (z : (refusal_in s o c).number ≡ 0) where
+  module _ (z : refusal_in s o c ≡ accepted) where
     taken : cond (accepts s o c) (afresh s o c) o ≡ afresh s o c
-    taken = rw (eq-eqb (refusal_in s o c).number 0 z)
+    taken = rw z
 
     step_unchanged : Unchanging o c → Step s o c
     step_unchanged w =
@@ -191,7 +183,7 @@ module _ (s : Setup) (o : Reel) (c : Call) (five : Five c) (f : Stands s o) wher
         let e = unchanging_row s o c five w in
         let m = moved s o.count o.rows o.left c five (is_accepted s o c z) in
         record {
-          is_right = record { refuses = λ h. absurd (h z); unchanged = (retakes s o c five).unchanged; changed = λ _ h. absurd (h w) };
+          is_right = record { refuses = (retakes s o c five).refuses; unchanged = (retakes s o c five).unchanged; changed = λ _ h. absurd (h w) };
           is = q ∙ e ∙ is_afresh s o c (moved_by s o.count o.left c) m (subst (λ (x : Reel). Stands s x) e f) m.past ∙ sym taken;
           stands = rw q f;
         }
@@ -262,12 +254,12 @@ module _ (s : Setup) (o : Reel) (c : Call) (five : Five c) (f : Stands s o) wher
           by (inr (inr x)) = by_words j (sym x)
 
       made : (i : ℕ) → i < n' → Made s rows' u i
-      made i h = go (le_or_lt (position c) i) (le_or_lt j i)
+      made i h = go (cases_lt i (position c)) (cases_lt i j)
         where
-          go : (position c ≤ i) ⊎ (i < position c) → (j ≤ i) ⊎ (i < j) → Made s rows' u i
-          go (inr x) y = early i h x
-          go (inl x) (inr y) = D.did.made i x y
-          go (inl x) (inl y) = late i h (eq-or-lt_of_le y)
+          go : (i < position c) ⊎ (position c ≤ i) → (i < j) ⊎ (j ≤ i) → Made s rows' u i
+          go (inl x) y = early i h x
+          go (inr x) (inl y) = D.did.made i x y
+          go (inr x) (inr y) = late i h (eq-or-lt_of_le y)
 
       stands_again : Stands s (reel n' rows' u)
       stands_again = record { room = roomy_after s o.count o.rows o.left c m D.run D.did; made = made }
@@ -295,21 +287,21 @@ module _ (s : Setup) (o : Reel) (c : Call) (five : Five c) (f : Stands s o) wher
       step_changed =
           let q = after_is s o c z five w in
           record {
-            is_right = record { refuses = λ h. absurd (h z); unchanged = λ _ x. absurd (w x); changed = λ _ _. retaken };
+            is_right = record { refuses = (retakes s o c five).refuses; unchanged = λ _ x. absurd (w x); changed = λ _ _. retaken };
             is = q ∙ is_afresh s o c u m stands_again (pasts s o c z five w) ∙ sym taken;
             stands = rw q stands_again;
           }
 
   step : Step s o c
-  step = go (eqb (refusal_in s o c).number 0) (eqb-true (refusal_in s o c).number 0) (eqb-false (refusal_in s o c).number 0)
+  step = go (refusal_in s o c) refl
     where
-      go : (b : Bool) → (b ≡ true → (refusal_in s o c).number ≡ 0) → (b ≡ false → (refusal_in s o c).number ≡ 0 → ⊥) → Step s o c
-      go false a h = step_refused (h refl)
-      go true a h = by (unchanging_or_not s o c)
+      go : (r : Tested) → refusal_in s o c ≡ r → Step s o c
+      go (Err r) h = step_refused r h
+      go (Ok u) z = by (unchanging_or_not s o c)
         where
           by : Unchanging o c ⊎ (Unchanging o c → ⊥) → Step s o c
-          by (inl w) = step_unchanged (a refl) w
-          by (inr w) = step_changed (a refl) w
+          by (inl w) = step_unchanged z w
+          by (inr w) = step_changed z w
 
 -- ---- A list of calls.
 
@@ -320,32 +312,32 @@ record Listed (s : Setup) (o : Reel) (cs : List Call) : Type 0 where
 
 listed : (s : Setup) (cs : List Call) → Fives cs → (o : Reel) → Stands s o → Listed s o cs
 unfolding after expected EachRight Fives
-listed s [] five o f = record { is = refl; stands = f; each = tt }
-listed s (c ∷ cs) five o f =
-    let p : Step s o c = step s o c five.0 f in
-    let q : Listed s (next s o c) cs = listed s cs five.1 (next s o c) p.stands in
+listed s [] fives o f = record { is = refl; stands = f; each = tt }
+listed s (c ∷ cs) fives o f =
+    let p : Step s o c = step s o c fives.0 f in
+    let q : Listed s (next s o c) cs = listed s cs fives.1 (next s o c) p.stands in
     record { is = q.is ∙ ap (λ (x : Reel). expected s x cs) p.is; stands = q.stands; each = (p.is_right, q.each) }
 
 -- ---- The claim.
 
--- A rendering that answers with no number was accepted.
-pub accepted_is : (s : Setup) (o : Reel) → claim.Accepted s o → (refusal_in s o render).number ≡ 0
-unfolding call_of result_of
-accepted_is s o e = go (eqb (refusal_in s o render).number 0) (eqb-true (refusal_in s o render).number 0) (eqb-false (refusal_in s o render).number 0)
+-- A rendering that is not refused was accepted.
+pub accepted_is : (s : Setup) (o : Reel) → claim.Accepted s o → refusal_in s o Render ≡ accepted
+unfolding call_of
+accepted_is s o e = go (refusal_in s o Render) e
   where
-    go : (b : Bool) → (b ≡ true → (refusal_in s o render).number ≡ 0) → (b ≡ false → (refusal_in s o render).number ≡ 0 → ⊥) → (refusal_in s o render).number ≡ 0
-    go true a h = a refl
-    go false a h = ap (λ (x : Outcome). (result_of x.answer).number) (sym (call_refused s o.count o.rows o.left render (h refl))) ∙ e
+    go : (r : Tested) → IsOk (tested r (done_of s o.count o.rows o.left Render) o.rows o.left).answer → r ≡ accepted
+    go (Ok u) q = refl
+    go (Err r) q = cc
 
 pub demand_3 : Demand3
 unfolding after expected
-demand_3 s o cs five e =
+demand_3 s o cs fives e =
     let z = accepted_is s o e in
-    let q : Listed s (next s o render) cs = listed s cs five (next s o render) (rendered_stands s o z) in
-    let first : next s o render ≡ cond (accepts s o render) (afresh s o render) o = rendered_afresh s o z ∙ sym (rw (eq-eqb (refusal_in s o render).number 0 z)) in
+    let q : Listed s (next s o Render) cs = listed s cs fives (next s o Render) (rendered_stands s o z) in
+    let first : next s o Render ≡ cond (accepts s o Render) (afresh s o Render) o = rendered_afresh s o z ∙ sym (rw z) in
     record {
       all = q.is ∙ ap (λ (x : Reel). expected s x cs) first;
-      below = begins_fresh s (after s (next s o render) cs) q.stands;
+      below = begins_fresh s (after s (next s o Render) cs) q.stands;
       rendered = rendered_report s o z;
       each = q.each;
     }

@@ -1,14 +1,7 @@
 -- What a run does to any take, by induction on its rows: the rows that it renders are made from the words that the take then keeps before
 -- them, no other row is written, and it stops at the first row from its stretch's end on that says so.
-use mathlib.Core.Path.{◌≡◌, refl, sym, ap, ◌∙◌, subst}
-use mathlib.Core.List.{List}
-use mathlib.Core.Bool.{Bool, true, false, cond}
-use mathlib.Core.Logic.{◌⊎◌, inl, inr}
-use Prim.Native.Nat.{ℕ, zero, suc, ◌+◌, ◌≤◌, ◌<◌}
-use native.Mathlib.Omega.{arith}
-use native.Mathlib.Nat.{eq-or-lt_of_le, le_refl}
-use borrow.Author.Tests.{eqb-true, eqb-false}
-use lib.Dec.{eqb}
+use Rattle.std.proofs.Common.{◌≡◌, refl, sym, ap, ◌∙◌, subst, List, Bool, true, false, cond, ◌⊎◌, inl, inr, ℕ, zero, suc, ◌+◌, ◌≤◌, ◌<◌, arith, eq-or-lt_of_le, le_refl, eqb-true, eqb}
+use borrow.Author.Tests.{eqb-false}
 use Rattle.lists.specs.Lists.{same}
 use Rattle.utils.specs.Holds.{none, plus, total}
 use Rattle.utils.specs.declared.holds.Holds.{Holds}
@@ -17,7 +10,7 @@ use Rattle.rows.specs.declared.Report.{Report}
 use Rattle.rows.specs.Rows.{Setup, Take, kept_at, before_row, words_before, Row, row_by, row_in, put_words, both, Run, idle, after, stops_of, run_of}
 use Rattle.retakes.specs.Retakes.{words_at, holds_of, made_from}
 use Rattle.rows.proofs.Ending.{not_the_end}
-use Rattle.runs.proofs.Turns.{SameLengths}
+use Rattle.runs.specs.Inner.{SameLengths}
 use Rattle.retakes.proofs.Takes.{Roomy, Elsewhere, lengths_then, roomy_still, row_sized, put_lengths, put_elsewhere, put_words_back, elsewhere_then, words_elsewhere}
 
 module _ (s : Setup) (rows : List ℕ) where

@@ -1,16 +1,11 @@
 -- A row's words put into a take that may be longer: they stand there, the other rows are as they were, and no length changes.
-use mathlib.Core.Path.{◌≡◌}
-use mathlib.Core.List.{List}
-use mathlib.Core.Logic.{◌⊎◌}
-use Prim.Native.Nat.{ℕ, ◌+◌, ◌*◌, ◌≤◌, ◌<◌}
-use native.Mathlib.Omega.{arith}
-use lib.ListN.{length}
+use Rattle.std.proofs.Common.{ap, ◌∙◌, ◌≡◌, List, ◌⊎◌, ℕ, ◌+◌, ◌*◌, ◌≤◌, ◌<◌, arith, length}
 use Rattle.lists.proofs.Places.{Outside, part_end, put_part, put_outside, put_long, part_outside, outside_then}
 use Rattle.score.specs.Rows.{row_words}
 use Rattle.voice.specs.Voice.{kept_count}
 use Rattle.voice.proofs.Laws as voice
-use Rattle.rows.specs.Rows.{Setup, Take, row_from, row_by, put_words}
-use Rattle.runs.proofs.Turns.{SameLengths}
+use Rattle.rows.specs.Rows.{Setup, Take, lent, row_from, row_by, put_words}
+use Rattle.runs.specs.Inner.{SameLengths}
 use Rattle.retakes.specs.Retakes.{words_at}
 
 -- The buffers hold n rows.
@@ -36,6 +31,11 @@ roomy_still s n rows t u l r =
       aux_room = omega (arith, r.aux_room, l.aux_long);
       kept_room = omega (arith, r.kept_room, l.kept_long);
     }
+
+-- A take is its three lists.
+pub take_is : (t u : Take) → t.out ≡ u.out → t.aux ≡ u.aux → t.kept ≡ u.kept → t ≡ u
+take_is t u o a k =
+    ap (λ (x : List ℕ). lent x t.aux t.kept) o ∙ ap (λ (x : List ℕ). lent u.out x t.kept) a ∙ ap (λ (x : List ℕ). lent u.out u.aux x) k
 
 -- Outside rows k to j - 1 a take is as it was.
 pub record Elsewhere (frames k j : ℕ) (old new : Take) : Type 0 where

@@ -2,7 +2,8 @@
 -- before it, what a call does to any take. The calls are `call_of` of take · Take, to which the code is proved equal. Below: fresh rendering, lists
 -- of calls, what a list is to leave, what one call does, and the claims: `Retakes` of any take, `HoldKinds` of what any call reports, `Demand3`,
 -- `Inherited` of what every row has.
-use Rattle.std.specs.Prelude.{ℕ, zero, suc, ◌+◌, ◌-◌, ◌*◌, ◌≤◌, ◌<◌, List, [], ◌∷◌, ◌++◌, map, Bool, true, cond, ◌≡◌, ◌⊎◌, eqb, ltb, length, get_or, take, drop}
+use Rattle.std.specs.Prelude.{ℕ, zero, suc, ◌+◌, ◌-◌, ◌*◌, ◌≤◌, ◌<◌, List, [], ◌∷◌, ◌++◌, map, Bool, true, cond, ◌≡◌, ◌⊎◌, ltb, length, get_or, take, drop, Ok, Err, is_ok, IsOk, flat_map}
+use Rattle.std.specs.List.{AllByRecursion}
 use Rattle.lists.specs.Lists.{part, put}
 use Rattle.utils.specs.Holds.{none, total}
 use Rattle.utils.specs.declared.holds.Holds.{Holds}
@@ -11,14 +12,15 @@ use Rattle.voice.specs.Voice.{kept_count, voice_of, kept_words, state_of}
 use Rattle.voice.specs.HoldKinds.{KindsOn}
 use Rattle.score.specs.Rows.{row_words, word_for, restart, row_at, put_row}
 use Rattle.score.specs.Limits.{row_within}
-use Rattle.score.specs.Numbers.{refused}
+use Rattle.score.specs.Numbers.{Tested, accepted}
 use Rattle.score.specs.declared.refusal.Refusal.{Refusal}
 use Rattle.rows.specs.Rows.{Setup, Take, lent, fresh_start, Row, row_from, row_by, row_in, words_before, nothing}
 use Rattle.rows.specs.declared.Report.{Report}
-use Rattle.refusals.specs.Calls.{Call, render, edit, insert, remove, count_after, position}
+use Rattle.refusals.specs.declared.Call.{Call}
+use Rattle.refusals.specs.declared.Call.TheVariants.{Render, Edit, Insert, Remove}
+use Rattle.refusals.specs.Calls.{count_after, position}
 use Rattle.refusals.specs.Refusals.{refusal_of}
-use Rattle.take.specs.declared.Answer.TheVariants.{Done}
-use Rattle.take.specs.Take.{result_of, Outcome, call_of}
+use Rattle.take.specs.Take.{Outcome, call_of}
 
 -- ---- Fresh rendering.
 
@@ -37,8 +39,7 @@ fresh s n rows = fresh_from s rows n 0 (fresh_start s)
 
 -- The rows' words one after the other, of out, of aux or of kept.
 unfoldable pub joined : (Take → List ℕ) → List Row → List ℕ
-joined of [] = []
-joined of (r ∷ rs) = of r.words ++ joined of rs
+joined of rs = flat_map (λ (r : Row). of r.words) rs
 
 -- The take of a rendering.
 abbrev pub take_of : List Row → Take
@@ -72,11 +73,11 @@ abbrev pub reel : ℕ → List ℕ → Take → Reel
 reel n rows t = record { count = n; rows = rows; left = t }
 
 -- What the table says of a call that is handed a reel.
-abbrev pub refusal_in : Setup → Reel → Call → Refusal
+abbrev pub refusal_in : Setup → Reel → Call → Tested
 refusal_in s o c = refusal_of s o.count o.rows o.left c
 
 abbrev pub accepts : Setup → Reel → Call → Bool
-accepts s o c = eqb (refusal_in s o c).number 0
+accepts s o c = is_ok (refusal_in s o c)
 
 -- A call handed a reel.
 abbrev pub called : Setup → Reel → Call → Outcome
@@ -86,7 +87,7 @@ called s o c = call_of s o.count o.rows o.left c
 unfoldable pub next : Setup → Reel → Call → Reel
 next s o c =
     let a = called s o c in
-    reel (cond (eqb (result_of a.answer).number 0) (count_after o.count c) o.count) a.rows a.left
+    reel (cond (is_ok a.answer) (count_after o.count c) o.count) a.rows a.left
 
 -- What a list of calls leaves, each handed what the call before it left.
 unfoldable pub after : Setup → Reel → List Call → Reel
@@ -95,14 +96,13 @@ after s o (c ∷ cs) = after s (next s o c) cs
 
 -- A row has five words.
 unfoldable pub Five : Call → Type 0
-Five render = Unit {0}
-Five (edit k row) = length row ≡ row_words
-Five (insert p row) = length row ≡ row_words
-Five (remove p) = Unit {0}
+Five Render = Unit {0}
+Five (Edit k row) = length row ≡ row_words
+Five (Insert p row) = length row ≡ row_words
+Five (Remove p) = Unit {0}
 
 unfoldable pub Fives : List Call → Type 0
-Fives [] = Unit {0}
-Fives (c ∷ cs) = Five c × Fives cs
+Fives cs = AllByRecursion Five cs
 
 -- ---- What a list of calls is to leave.
 
@@ -112,10 +112,10 @@ score_of o = take (o.count * row_words) o.rows
 
 -- A score with a call's row put in its place, put between the others, or taken out: of the score alone, where `rows_after` is of the lent words.
 unfoldable pub score_with : List ℕ → Call → List ℕ
-score_with rows render = rows
-score_with rows (edit k row) = put_row rows k row
-score_with rows (insert p row) = take (p * row_words) rows ++ (row ++ drop (p * row_words) rows)
-score_with rows (remove p) = take (p * row_words) rows ++ drop ((p + 1) * row_words) rows
+score_with rows Render = rows
+score_with rows (Edit k row) = put_row rows k row
+score_with rows (Insert p row) = take (p * row_words) rows ++ (row ++ drop (p * row_words) rows)
+score_with rows (Remove p) = take (p * row_words) rows ++ drop ((p + 1) * row_words) rows
 
 -- The fresh rendering of a reel's score.
 abbrev pub fresh_of : Setup → Reel → List Row
@@ -143,18 +143,18 @@ expected s o (c ∷ cs) = expected s (cond (accepts s o c) (afresh s o c) o) cs
 -- Where row i of the score after a call came from: the rows behind one put in stood a place lower, those behind one taken out a place higher. The row
 -- put in came from nowhere; no claim asks for it.
 unfoldable pub came : Call → ℕ → ℕ
-came render i = i
-came (edit k row) i = i
-came (insert p row) i = cond (ltb p i) (i - 1) i
-came (remove p) i = cond (ltb i p) i (i + 1)
+came Render i = i
+came (Edit k row) i = i
+came (Insert p row) i = cond (ltb p i) (i - 1) i
+came (Remove p) i = cond (ltb i p) i (i + 1)
 
 -- The lowest row before which a call handed a count of n may stop: a rendering renders all rows, an edit and an insertion their own at least; "after
 -- a removal the row now there" is measured too.
 unfoldable pub lowest_stop : ℕ → Call → ℕ
-lowest_stop n render = n
-lowest_stop n (edit k row) = k + 1
-lowest_stop n (insert p row) = p + 1
-lowest_stop n (remove p) = p
+lowest_stop n Render = n
+lowest_stop n (Edit k row) = k + 1
+lowest_stop n (Insert p row) = p + 1
+lowest_stop n (Remove p) = p
 
 -- Before row j a call may stop: it is the end, or its row restarts, or the state's words before it are the same, by `old` and by `new`, which say
 -- them where the row came from and where it is.
@@ -166,7 +166,7 @@ pub record First (n : ℕ) (rows : List ℕ) (old new : ℕ → List ℕ) (low j
   pub least : low ≤ j
   pub most : j ≤ n
   pub stops : Stop n rows old new j
-  pub smallest : (i : ℕ) → low ≤ i → i < j → Stop n rows old new i → ⊥
+  pub smallest : (i : ℕ) → low ≤ i → i < j → ¬ Stop n rows old new i
 
 -- Row i of a take.
 abbrev pub words_at : ℕ → Take → ℕ → Take
@@ -181,7 +181,7 @@ pub record Past (frames n : ℕ) (old new : Take) : Type 0 where
 -- The call reports the rows from its position to before row j, and what they hold. Its score is laid over the lent row words. Every other row of the
 -- take has the words that it had where it came from, and past the new count every word stays.
 pub record Writes (s : Setup) (o : Reel) (c : Call) (j : ℕ) (holds : Holds) : Type 0 where
-  pub reports : (called s o c).answer ≡ Done (record { rows = j - position c; holds = holds })
+  pub reports : (called s o c).answer ≡ Ok (record { rows = j - position c; holds = holds })
   pub count : (next s o c).count ≡ count_after o.count c
   pub rows : (next s o c).rows ≡ put o.rows 0 (score_with (score_of o) c)
   pub others : (i : ℕ) → (i < position c) ⊎ (j ≤ i) → i < (next s o c).count → words_at s.frames (next s o c).left i ≡ words_at s.frames o.left (came c i)
@@ -189,17 +189,17 @@ pub record Writes (s : Setup) (o : Reel) (c : Call) (j : ℕ) (holds : Holds) : 
 
 -- An edit that changes no word.
 unfoldable pub Unchanging : Reel → Call → Type 0
-Unchanging o render = ⊥
-Unchanging o (edit k row) = row_at o.rows k ≡ row
-Unchanging o (insert p row) = ⊥
-Unchanging o (remove p) = ⊥
+Unchanging o Render = ⊥
+Unchanging o (Edit k row) = row_at o.rows k ≡ row
+Unchanging o (Insert p row) = ⊥
+Unchanging o (Remove p) = ⊥
 
 -- A call is refused just where the table says so, "with number and place as the table says"; "An accepted edit that changes no word writes nothing
 -- and reports 0 for both", and five zeros; of every other accepted call `Changed` is true.
 pub record Right (s : Setup) (o : Reel) (c : Call) (Changed : Type 0) : Type 0 where
-  pub refuses : ((refusal_in s o c).number ≡ 0 → ⊥) → (result_of (called s o c).answer ≡ refused (refusal_in s o c)) × (next s o c ≡ o)
-  pub unchanged : (refusal_in s o c).number ≡ 0 → Unchanging o c → ((called s o c).answer ≡ Done nothing) × (next s o c ≡ o)
-  pub changed : (refusal_in s o c).number ≡ 0 → (Unchanging o c → ⊥) → Changed
+  pub refuses : (r : Refusal) → refusal_in s o c ≡ Err r → ((called s o c).answer ≡ Err r) × (next s o c ≡ o)
+  pub unchanged : refusal_in s o c ≡ accepted → Unchanging o c → ((called s o c).answer ≡ Ok nothing) × (next s o c ≡ o)
+  pub changed : refusal_in s o c ≡ accepted → ¬ Unchanging o c → Changed
 
 -- ---- Any take: "These rules hold for junk in out, aux and kept as well".
 
@@ -228,7 +228,7 @@ Retakes = (s : Setup) (o : Reel) (c : Call) → Five c → Right s o c (Retaken 
 -- What any call reports, on any take: on the terrain voice `held` is map plus bank; on the others each count is at most `held`, and `held` at most
 -- their sum.
 abbrev pub HoldKinds : Type 0
-HoldKinds = (s : Setup) (o : Reel) (c : Call) (p : Report) → (called s o c).answer ≡ Done p → KindsOn (voice_of s.instrument) p.holds
+HoldKinds = (s : Setup) (o : Reel) (c : Call) (p : Report) → (called s o c).answer ≡ Ok p → KindsOn (voice_of s.instrument) p.holds
 
 -- ---- Takes of a list.
 
@@ -253,14 +253,14 @@ cut s n t = lent (take (n * s.frames) t.out) (take (n * s.frames) t.aux) (take (
 -- After the rendering and the list: count, row words and take are, to the last lent word, those expected; so the rows below the count are those of
 -- a fresh rendering of the resulting score; the rendering reported all its rows and what they hold; and each call of the list was right.
 pub record Promise (s : Setup) (o : Reel) (cs : List Call) : Type 0 where
-  pub all : after s o (render ∷ cs) ≡ expected s o (render ∷ cs)
-  pub below : let o' = after s o (render ∷ cs) in cut s o'.count o'.left ≡ take_of (fresh_of s o')
-  pub rendered : (called s o render).answer ≡ Done (record { rows = o.count; holds = holds_of (fresh_of s o) })
-  pub each : EachRight s (next s o render) cs
+  pub all : after s o (Render ∷ cs) ≡ expected s o (Render ∷ cs)
+  pub below : let o' = after s o (Render ∷ cs) in cut s o'.count o'.left ≡ take_of (fresh_of s o')
+  pub rendered : (called s o Render).answer ≡ Ok (record { rows = o.count; holds = holds_of (fresh_of s o) })
+  pub each : EachRight s (next s o Render) cs
 
--- A rendering that no number refuses.
+-- A rendering that is not refused.
 abbrev pub Accepted : Setup → Reel → Type 0
-Accepted s o = (result_of (called s o render).answer).number ≡ 0
+Accepted s o = IsOk (called s o Render).answer
 
 -- "For every accepted whole rendering and every list of row edits after it, refused edits included"; such lists "may mix in insertions and
 -- removals", and here renderings. The lent take, and all that is lent past the count, may hold any words.
@@ -277,4 +277,4 @@ pub record Inherits (s : Setup) (Has : Take → Type 0) : Type 0 where
 -- Every row of the take has it, after an accepted rendering and every list of calls.
 abbrev pub Inherited : Type 1
 Inherited = (s : Setup) (Has : Take → Type 0) → Inherits s Has → (o : Reel) (cs : List Call) → Fives cs → Accepted s o
-    → (i : ℕ) → i < (after s o (render ∷ cs)).count → Has (words_at s.frames (after s o (render ∷ cs)).left i)
+    → (i : ℕ) → i < (after s o (Render ∷ cs)).count → Has (words_at s.frames (after s o (Render ∷ cs)).left i)

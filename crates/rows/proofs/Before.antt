@@ -1,9 +1,5 @@
 -- The words before a row: one that is not the first has a part of the kept words before it, and where a place is made they stand there.
-use mathlib.Core.Path.{◌≡◌, refl, ◌∙◌}
-use mathlib.Core.List.{List}
-use Prim.Native.Nat.{ℕ, zero, suc, ◌+◌, ◌-◌, ◌*◌}
-use native.Mathlib.Omega.{arith}
-use lib.ListN.{take, drop}
+use Rattle.std.proofs.Common.{◌≡◌, refl, ◌∙◌, List, ℕ, zero, suc, ◌+◌, ◌-◌, ◌*◌, arith, take, drop}
 use Rattle.voice.specs.declared.State.{State}
 use Rattle.voice.specs.Voice.{kept_count}
 use Rattle.lists.specs.Lists.{put, shift_up}

@@ -1,9 +1,5 @@
 -- A run stops at the end at the latest.
-use mathlib.Core.Path.{◌≡◌, sym, ◌∙◌}
-use mathlib.Core.List.{List}
-use mathlib.Core.Bool.{Bool, false, true≢false}
-use Prim.Native.Nat.{ℕ}
-use borrow.Author.Tests.{eq-eqb}
+use Rattle.std.proofs.Common.{◌≡◌, sym, ◌∙◌, List, Bool, false, true≢false, ℕ, eq-eqb}
 use Rattle.rows.specs.Rows.{stops_of}
 
 pub not_the_end : (n : ℕ) (rows : List ℕ) (j : ℕ) (unchanged : Bool) → stops_of n rows j unchanged ≡ false → j ≡ n → ⊥

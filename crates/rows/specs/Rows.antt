@@ -1,6 +1,6 @@
 -- Document 01, "Rows, states, retakes", and document 02: a row made from the 13 words kept before it, its words put into a take, places moved, and
 -- runs of rows.
-use Rattle.std.specs.Prelude.{ℕ, zero, suc, ◌+◌, ◌*◌, List, Bool, cond, ◌||◌, eqb, ℤ, get_or, Float}
+use Rattle.std.specs.Prelude.{ℕ, ◌≡◌, zero, suc, ◌+◌, ◌*◌, List, Bool, cond, ◌||◌, eqb, ℤ, get_or, Float}
 use Rattle.std.specs.Float.{binary32}
 use Rattle.std.specs.Float.Ieee.{of_bits}
 use Rattle.lists.specs.Lists.{part, put, shift_up, shift_down, same}
@@ -12,6 +12,8 @@ use Rattle.score.specs.Rows.{place, note, timbre, morph, harmonics, row_at, rest
 use Rattle.voice.specs.declared.State.{State}
 use Rattle.voice.specs.Voice.{kept_count, voice_of, fresh_state, kept_words, state_of, rendered}
 use Rattle.rows.specs.declared.Settings.{Settings}
+use Rattle.rows.specs.declared.Patch.{Patch}
+use Rattle.rows.specs.declared.Take.{Take as LentTake}
 use Rattle.rows.specs.declared.Report.{Report}
 
 -- ---- What the calls are lent.
@@ -27,6 +29,9 @@ pub record Setup : Type 0 where
 abbrev pub setup : Settings → List ℤ → List ℕ → Setup
 setup q bank map = record { instrument = q.instrument; rate = q.rate; frames = q.frames; bank = bank; map = map }
 
+abbrev pub setup_by : Patch → Setup
+setup_by p = setup p.settings p.bank.now p.map.now
+
 -- "A take is out, aux and kept."
 pub record Take : Type 0 where
   pub out : List ℕ
@@ -36,9 +41,22 @@ pub record Take : Type 0 where
 abbrev pub lent : List ℕ → List ℕ → List ℕ → Take
 lent out aux kept = record { out = out; aux = aux; kept = kept }
 
+-- The words that a take lends.
+abbrev pub words_of : LentTake → Take
+words_of t = lent t.out.now t.aux.now t.kept.now
+
+-- A take lends the same places after a call as before.
+pub record SamePlaces (t t' : LentTake) : Type 0 where
+  pub out_is : t'.out.ghost_name ≡ t.out.ghost_name
+  pub aux_is : t'.aux.ghost_name ≡ t.aux.ghost_name
+  pub kept_is : t'.kept.ghost_name ≡ t.kept.ghost_name
+
 -- ---- One row.
 
 -- The fresh state, with which "row 0, and each row with restart 1, begins".
+abbrev pub fresh_by : Settings → State
+fresh_by q = fresh_state (voice_of q.instrument) (a0_of q.rate)
+
 abbrev pub fresh_start : Setup → State
 fresh_start s = fresh_state (voice_of s.instrument) (a0_of s.rate)
 

@@ -3,10 +3,9 @@
 
 ghost use Rattle.std.specs.Prelude.{◌≡◌, ◌+◌, ◌*◌, ◌≤◌, ◌<◌, length};
 ghost use Rattle.lists.specs.Lists.{put, same};
-ghost use Rattle.utils.specs.Units.{a0_of};
 ghost use Rattle.score.specs.Rows.{row_words, most_rows};
-ghost use Rattle.voice.specs.Voice.{kept_count, voice_of, fresh_state, state_of};
-ghost use Rattle.rows.specs.Rows.{kept_at, before_row, kept_room, parameters_of, start_of, nothing, stops_of};
+ghost use Rattle.voice.specs.Voice.{kept_count, voice_of, state_of};
+ghost use Rattle.rows.specs.Rows.{fresh_by, kept_at, before_row, kept_room, parameters_of, start_of, stops_of};
 ghost use Rattle.rows.specs.Ends.{end_of};
 
 use score::rows::{HARMONICS, MORPH, NOTE, ROW_WORDS, TIMBRE};
@@ -15,6 +14,7 @@ use utils::holds::Holds;
 use voice::KEPT_WORDS;
 
 // What stays the same from row to row: the instrument's number, the rate in Hz, and the frames of a row.
+// The instrument stays a number, as the C interface hands it: each call tests it.
 #[derive(Clone, Copy)]
 pub struct Settings {
     pub instrument: u32,
@@ -22,78 +22,107 @@ pub struct Settings {
     pub frames: usize,
 }
 
-// How many rows were rendered, and what they held.
+// What a call is lent beside the rows: the settings, the bank and the map.
 #[derive(Clone, Copy)]
+pub struct Patch<'a> {
+    pub settings: Settings,
+    pub bank: &'a [i16],
+    pub map: &'a [u8],
+}
+
+// A take, as it is lent: the samples, and the words kept after each row.
+#[derive(Drop)]
+pub struct Take<'a> {
+    pub out: &'a mut [u32],
+    pub aux: &'a mut [u32],
+    pub kept: &'a mut [u32],
+}
+
+// How many rows were rendered, and what they held; by default no row.
+#[derive(Clone, Copy, Default)]
 pub struct Report {
     pub rows: usize,
     pub holds: Holds,
 }
 
-// No row.
-pub fn nothing() -> Report
-    ensures { result ≡ nothing }
-{
-    Report {
-        rows: 0,
-        holds: utils::holds::none(),
+impl Settings {
+    // What a row's words tell the voice.
+    #[tactic(auto, unfolding(crate::specs::Rows::parameters_of))]
+    pub fn parameters(self, row: [u32; ROW_WORDS]) -> EngineParameters
+        ensures { result ≡ parameters_of self.rate row }
+    {
+        let note = words::of_word(row[NOTE]);
+        let timbre = words::of_word(row[TIMBRE]);
+        let morph = words::of_word(row[MORPH]);
+        let harmonics = words::of_word(row[HARMONICS]);
+        let a0_normalized = utils::engine::a0(self.rate);
+        EngineParameters {
+            note,
+            timbre,
+            morph,
+            harmonics,
+            a0_normalized,
+        }
+    }
+
+    // The fresh state of the instrument.
+    fn fresh_start(self) -> voice::State
+        ensures { result ≡ fresh_by self }
+    {
+        voice::fresh(
+            voice::voice_of(self.instrument),
+            utils::engine::a0(self.rate),
+        )
+    }
+
+    // The words of the state before row k: those kept after the row before it, and at row 0 those of the fresh state.
+    #[tactic(auto, using(crate::proofs::Before::later_before), unfolding(crate::specs::Rows::before_row))]
+    pub fn words_before(self, kept: &[u32], k: usize) -> [u32; KEPT_WORDS]
+        requires { (k ≤ most_rows) × (k * kept_count ≤ length kept.now) }
+        ensures { result ≡ before_row (fresh_by self) kept.now k }
+    {
+        if k == 0 {
+            return voice::kept_words(self.fresh_start());
+        }
+        let a = (k - 1) * KEPT_WORDS;
+        let e = a + KEPT_WORDS;
+        let mut before = [0; KEPT_WORDS];
+        before.copy_from_slice(&kept[a..e]);
+        before
+    }
+
+    // The state that a row begins with, by the words of the state before it.
+    #[tactic(auto, unfolding(crate::specs::Rows::start_of))]
+    pub fn start(self, row: [u32; ROW_WORDS], before: [u32; KEPT_WORDS]) -> voice::State
+        ensures { result ≡ start_of (fresh_by self) row (state_of (voice_of self.instrument) before) }
+    {
+        if score::rows::restarts(row) {
+            return self.fresh_start();
+        }
+        voice::state_of(voice::voice_of(self.instrument), &before)
+    }
+
+    // The kept words of n rows with a place made for row p, where the words of the state before it then stand.
+    #[tactic(auto, using(crate::proofs::Before::room_made))]
+    pub fn make_room(self, kept: &mut [u32], n: usize, p: usize)
+        requires p_le_n { (p ≤ n) × (n < most_rows) }
+        requires kept_count_in_bounds { (n + 1) * kept_count ≤ length kept.old }
+        ensures { kept.new ≡ kept_room (fresh_by self) n kept.old p }
+    {
+        let before = self.words_before(kept, p);
+        lists::shift_up(kept, KEPT_WORDS, p, n);
+        let _same = keep(before, p, kept);
     }
 }
 
-// What a row's words tell the voice.
-#[tactic(auto, unfolding(crate::specs::Rows::parameters_of))]
-pub fn parameters(rate: u32, row: [u32; ROW_WORDS]) -> EngineParameters
-    ensures { result ≡ parameters_of rate row }
-{
-    let note = words::of_word(row[NOTE]);
-    let timbre = words::of_word(row[TIMBRE]);
-    let morph = words::of_word(row[MORPH]);
-    let harmonics = words::of_word(row[HARMONICS]);
-    let a0_normalized = utils::engine::a0(rate);
-    EngineParameters {
-        note,
-        timbre,
-        morph,
-        harmonics,
-        a0_normalized,
+impl Take<'_> {
+    // The words of the state before row k, by the words that this take keeps.
+    pub fn words_before(&self, settings: Settings, k: usize) -> [u32; KEPT_WORDS]
+        requires { (k ≤ most_rows) × (k * kept_count ≤ length self.now.kept.now) }
+        ensures { result ≡ before_row (fresh_by settings) self.now.kept.now k }
+    {
+        settings.words_before(self.kept, k)
     }
-}
-
-// The fresh state of an instrument.
-fn fresh_start(instrument: u32, rate: u32) -> voice::State
-    ensures { result ≡ fresh_state (voice_of instrument) (a0_of rate) }
-{
-    voice::fresh(voice::voice_of(instrument), utils::engine::a0(rate))
-}
-
-// The words of the state before row k: those kept after the row before it, and at row 0 those of the fresh state.
-pub fn words_before(instrument: u32, rate: u32, kept: &[u32], k: usize) -> [u32; KEPT_WORDS]
-    requires { (k ≤ most_rows) × (k * kept_count ≤ length kept.now) }
-    ensures { result ≡ before_row (fresh_state (voice_of instrument) (a0_of rate)) kept.now k }
-{
-    if k == 0 {
-        return voice::kept_words(fresh_start(instrument, rate));
-    }
-    let a = (k - 1) * KEPT_WORDS;
-    let e = a + KEPT_WORDS;
-    let mut before = [0; KEPT_WORDS];
-    lists::copy_words(&kept[a..e], &mut before);
-    before
-}
-
-// The state that a row begins with, by the words of the state before it.
-pub fn start(
-    instrument: u32,
-    rate: u32,
-    row: [u32; ROW_WORDS],
-    before: [u32; KEPT_WORDS],
-) -> voice::State
-    ensures { result ≡ start_of (fresh_state (voice_of instrument) (a0_of rate)) row (state_of (voice_of instrument) before) }
-{
-    let afresh = score::rows::restarts(row);
-    if afresh {
-        return fresh_start(instrument, rate);
-    }
-    voice::state_of(voice::voice_of(instrument), &before)
 }
 
 // A row's words, kept after row k; whether they are those that stood there.
@@ -105,50 +134,34 @@ pub fn keep(new: [u32; KEPT_WORDS], k: usize, kept: &mut [u32]) -> bool
 {
     let a = k * KEPT_WORDS;
     let e = a + KEPT_WORDS;
-    let same = lists::same_words(&kept[a..e], &new);
-    lists::copy_words(&new, &mut kept[a..e]);
+    let place = &mut kept[a..e];
+    let same = &*place == new.as_slice();
+    place.copy_from_slice(&new);
     same
 }
 
-// The kept words of n rows with a place made for row p, where the words of the state before it then stand.
-pub fn make_room(instrument: u32, rate: u32, kept: &mut [u32], n: usize, p: usize)
-    requires p_le_n { (p ≤ n) × (n < most_rows) }
-    requires kept_count_in_bounds { (n + 1) * kept_count ≤ length kept.old }
-    ensures { kept.new ≡ kept_room (fresh_state (voice_of instrument) (a0_of rate)) n kept.old p }
-{
-    let before = words_before(instrument, rate, kept, p);
-    lists::shift_up(kept, KEPT_WORDS, p, n);
-    let _same = keep(before, p, kept);
-}
-
 // Whether a run stops before row j of n, told whether the words before it are those that it had where it came from.
+#[tactic(auto, unfolding(crate::specs::Rows::stops_of))]
 pub fn stops(rows: &[u32], n: usize, j: usize, same: bool) -> bool
     requires j_le_n { (j ≤ n) × (n ≤ most_rows) }
     requires row_words_in_bounds { n * row_words ≤ length rows.now }
     ensures { result ≡ stops_of n rows.now j same }
 {
-    if j == n {
-        return true;
-    }
-    let restarts = score::rows::restarts(score::rows::row_at(rows, j));
-    if restarts {
-        return true;
-    }
-    same
+    j == n || score::rows::restarts(score::rows::row_at(rows, j)) || same
 }
 
-// Where a stretch that ended before row `end` ends once row j of n is reached: there, or a row further, or 0 where the run stops.
-pub fn next_end(rows: &[u32], n: usize, j: usize, end: usize, same: bool) -> usize
+// Where a stretch that ended before row `end` ends once row j of n is reached: there, or a row further, or nowhere where the run stops.
+#[tactic(auto, unfolding(crate::specs::Ends::end_of))]
+pub fn next_end(rows: &[u32], n: usize, j: usize, end: usize, same: bool) -> Option<usize>
     requires j_le_n { (j ≤ n) × (n ≤ most_rows) }
     requires row_words_in_bounds { n * row_words ≤ length rows.now }
     ensures { result ≡ end_of n rows.now j end same }
 {
     if j != end {
-        return end;
+        return Some(end);
     }
-    let stop = stops(rows, n, j, same);
-    if stop {
-        return 0;
+    if stops(rows, n, j, same) {
+        return None;
     }
-    j + 1
+    Some(j + 1)
 }

@@ -1,13 +1,6 @@
 -- The loop over the rows of a run, by what is left to do: rendering a row and going on is the definition's next step.
-use mathlib.Core.Path.{◌≡◌, refl, sym, ap, ◌∙◌}
-use mathlib.Core.List.{List}
-use mathlib.Core.Bool.{Bool, true, false, cond}
-use Prim.Native.Nat.{ℕ, suc, ◌+◌, ◌-◌, ◌*◌, ◌≤◌, ◌<◌}
-use native.Mathlib.Nat.{add-zero, zero-add, add_assoc, le_refl}
-use native.Mathlib.Omega.{arith}
+use Rattle.std.proofs.Common.{◌≡◌, refl, sym, ap, ◌∙◌, List, Bool, true, false, cond, ℕ, suc, ◌+◌, ◌-◌, ◌*◌, ◌≤◌, ◌<◌, add-zero, zero-add, add_assoc, eqb, Option, None, Some, arith, le_refl}
 use borrow.Author.Tests.{eqb-false}
-use lib.Dec.{eqb}
-use lib.ListN.{length}
 use Rattle.lists.specs.Lists.{same}
 use Rattle.lists.proofs.Places.{part_end}
 use Rattle.utils.specs.Holds.{none, plus, AtMost, most_count}
@@ -19,7 +12,7 @@ use Rattle.rows.specs.declared.Report.{Report}
 use Rattle.rows.specs.Rows.{Setup, Take, Row, kept_at, row_in, nothing, both, Run, reported, idle, after, stops_of, run_of}
 use Rattle.rows.specs.Ends.{end_of}
 use Rattle.rows.proofs.Ending.{not_the_end}
-use Rattle.runs.specs.Inner.{Holding, Room, RowDone}
+use Rattle.runs.specs.Inner.{Holding, Room, RowDone, SameLengths}
 
 -- ---- Reports, summed.
 
@@ -42,12 +35,7 @@ both_assoc p q r =
 
 -- ---- A row within a take.
 
-pub record SameLengths (t u : Take) : Type 0 where
-  pub out_long : length u.out ≡ length t.out
-  pub aux_long : length u.aux ≡ length t.aux
-  pub kept_long : length u.kept ≡ length t.kept
-
-pub room : (frames n k : ℕ) (rows : List ℕ) (t₀ t : Take) → Holding frames n rows t₀ → k < n → SameLengths t₀ t → Room frames k rows t.out t.aux t.kept
+pub room : (frames n k : ℕ) (rows : List ℕ) (t₀ t : Take) → Holding frames n rows t₀ → k < n → SameLengths t₀ t → Room frames k rows t
 room frames n k rows t₀ t f h e =
     let b : k * frames + frames ≤ n * frames = part_end k n frames h in
     record {
@@ -85,7 +73,7 @@ module _ (s : Setup) (rows : List ℕ) (n from to : ℕ) where
             rw (z, x) (ap (λ (p : Report). reported p (run_of s rows n n from to t).left) (nothing_both (run_of s rows n n from to t).report));
       }
 
-  module _ (t₀ t t' : Take) (k end e : ℕ) (holds h : Holds) (b : Bool) (frames_most : s.frames ≤ most_frames) (done : RowDone s rows k t h b t')
+  module _ (t₀ t t' : Take) (k end : ℕ) (e : Option ℕ) (holds h : Holds) (b : Bool) (frames_most : s.frames ≤ most_frames) (done : RowDone s rows k t h b t')
       (end_is : e ≡ end_of n rows (k + 1) end b) (r : Running s rows n from to t₀ t k end holds) where
     abbrev m : Row
     m = row_in s rows t.kept k
@@ -119,43 +107,47 @@ module _ (s : Setup) (rows : List ℕ) (n from to : ℕ) where
         ∙ ap (λ (u : Take). after before (after one (R u))) done.left_is
         ∙ r.is (suc l) (omega (arith, r.since))
 
-    end_by : e ≡ cond (eqb (k + 1) end) (cond stops 0 (k + 1 + 1)) end
+    end_by : e ≡ cond (eqb (k + 1) end) (cond stops None (Some (k + 1 + 1))) (Some end)
     unfolding end_of
-    end_by = end_is ∙ ap (λ (x : Bool). cond (eqb (k + 1) end) (cond (stops_of n rows (k + 1) x) 0 (k + 1 + 1)) end) done.same_is
+    end_by = end_is ∙ ap (λ (x : Bool). cond (eqb (k + 1) end) (cond (stops_of n rows (k + 1) x) None (Some (k + 1 + 1))) (Some end)) done.same_is
 
-    pub running_ends : e ≡ 0 → reported sum t' ≡ run_of s rows n n from to t₀
-    running_ends z = go (eqb (k + 1) end) stops (end_by) (step (n - (k + 1 - from)) (omega (arith, r.at, r.most)))
+    pub running_ends : e ≡ None → reported sum t' ≡ run_of s rows n n from to t₀
+    running_ends z = go (eqb (k + 1) end) stops (sym end_by ∙ z) (step (n - (k + 1 - from)) (omega (arith, r.at, r.most)))
       where
-        go : (x y : Bool) → e ≡ cond x (cond y 0 (k + 1 + 1)) end
+        go : (x y : Bool) → cond x (cond y None (Some (k + 1 + 1))) (Some end) ≡ None
             → after sum (rest x y (n - (k + 1 - from)) t') ≡ run_of s rows n n from to t₀
             → reported sum t' ≡ run_of s rows n n from to t₀
         go true true q w = ap (λ (p : Report). reported p t') (sym (both_nothing sum)) ∙ w
-        go true false q w = absurd (omega arith)
-        go false y q w = absurd (omega (arith, r.at))
+        go true false q w = cc
+        go false y q w = cc
 
     -- Where the stretch ends next.
-    record Next : Type 0 where
-      further : k + 1 < e
-      within : e ≤ n
-      goes : (l : ℕ) → l + (k + 1 - from) ≡ n → after sum (run_of s rows n l (k + 1) e t') ≡ run_of s rows n n from to t₀
+    record Next (e' : ℕ) : Type 0 where
+      further : k + 1 < e'
+      within : e' ≤ n
+      goes : (l : ℕ) → l + (k + 1 - from) ≡ n → after sum (run_of s rows n l (k + 1) e' t') ≡ run_of s rows n n from to t₀
 
     further_on : stops ≡ false → k + 2 ≤ n
     further_on y = omega (arith, not_the_end n rows (k + 1) _ y, r.at, r.most)
 
-    next : (e ≡ 0 → ⊥) → Next
-    next z = go (eqb (k + 1) end) stops (eqb-false (k + 1) end) refl end_by step
+    next : (e' : ℕ) → e ≡ Some e' → Next e'
+    next e' z = go (eqb (k + 1) end) stops (eqb-false (k + 1) end) refl (sym end_by ∙ z) step
       where
-        go : (x y : Bool) → (x ≡ false → k + 1 ≡ end → ⊥) → stops ≡ y → e ≡ cond x (cond y 0 (k + 1 + 1)) end
-            → ((l : ℕ) → l + (k + 1 - from) ≡ n → after sum (rest x y l t') ≡ run_of s rows n n from to t₀) → Next
-        go true true o y q w = absurd (z q)
+        go : (x y : Bool) → (x ≡ false → k + 1 ≡ end → ⊥) → stops ≡ y → cond x (cond y None (Some (k + 1 + 1))) (Some end) ≡ Some e'
+            → ((l : ℕ) → l + (k + 1 - from) ≡ n → after sum (rest x y l t') ≡ run_of s rows n n from to t₀) → Next e'
+        go true true o y q w = cc
         go true false o y q w =
-            let c : e ≡ k + 2 = omega arith in
+            let i : k + 1 + 1 ≡ e' = cc in
+            let c : e' ≡ k + 2 = omega arith in
             record { further = omega arith; within = omega (arith, further_on y); goes = λ l x. rw c (w l x) }
-        go false y o _ q w = record { further = omega (arith, o refl, r.at); within = omega (arith, r.most); goes = λ l x. rw q (w l x) }
+        go false y o _ q w =
+            let i : end ≡ e' = cc in
+            record { further = omega (arith, o refl, r.at); within = omega (arith, r.most); goes = λ l x. rw (sym i) (w l x) }
 
-    pub running_more : (e ≡ 0 → ⊥) → SameLengths t t' → Running s rows n from to t₀ t' (k + 1) e (plus holds h)
-    running_more z g =
-        let d = next z in
+    pub running_more : (e' : ℕ) → e ≡ Some e' → Running s rows n from to t₀ t' (k + 1) e' (plus holds h)
+    running_more e' z =
+        let d = next e' z in
+        let g = done.lengths in
         let c : k * (most_holds * most_frames) + most_holds * s.frames ≤ (k + 1) * (most_holds * most_frames) = omega arith in
         record {
           at = d.further;

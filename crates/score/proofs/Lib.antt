@@ -4,3 +4,4 @@ pub mod Within
 pub mod RowWords
 pub mod RowsRight
 pub mod FirstBad
+pub mod Same

@@ -1,10 +1,5 @@
 -- Five words of a list, by their places, are the part of it that a row takes.
-use mathlib.Core.Path.{◌≡◌, sym}
-use mathlib.Core.List.{List, [], ◌∷◌}
-use Prim.Native.Nat.{ℕ, suc, ◌+◌, ◌≤◌}
-use native.Mathlib.Omega.{arith}
-use lib.ListN.{length, take, drop, get_or}
-use lib.Seq.{drop-cons}
+use Rattle.std.proofs.Common.{◌≡◌, sym, List, [], ◌∷◌, ℕ, suc, ◌+◌, ◌≤◌, arith, length, take, drop, get_or, drop-cons}
 use Rattle.score.specs.Rows.{row_words}
 
 pub row_words_at : (l : List ℕ) (a : ℕ) → a + row_words ≤ length l

@@ -1,8 +1,5 @@
 -- What 6 lets through: a count within its bounds, and row words for it.
-use mathlib.Core.Path.{◌≡◌}
-use mathlib.Core.Bool.{false}
-use Prim.Native.Nat.{ℕ, ◌*◌, ◌≤◌}
-use borrow.Author.Tests.{ltb-false}
+use Rattle.std.proofs.Common.{◌≡◌, false, ℕ, ◌*◌, ◌≤◌, ltb-false}
 use Rattle.lists.proofs.Cases.{neither}
 use Rattle.score.specs.Rows.{row_words, wrong_rows}
 

@@ -1,20 +1,11 @@
 -- The limits, tested on words. A float's test from 0 to a limit is one comparison of its word with the limit's word, after -0 is taken for +0.
-use mathlib.Core.Path.{◌≡◌, refl, sym, ap, ◌∙◌, subst}
-use mathlib.Core.Logic.{⊎_elim}
-use mathlib.Core.Bool.{true, false, ◌&&◌, ◌||◌, cond}
-use mathlib.Core.List.{List}
-use lib.ListN.{drop}
-use lib.Seq.{drop-drop}
-use Prim.Native.Nat.{ℕ, zero, suc, ◌+◌, ◌-◌, ◌*◌, ◌^◌, ◌≤◌, ◌<◌, zero-le}
-use native.Mathlib.Nat.{eq-or-lt_of_le}
-use native.Mathlib.Omega.{arith}
-use borrow.Author.Tests.{lt-leb, ne_eqb}
-use lib.Dec.{leb, eqb, leb-zero}
-use lib.IntN.{pos}
+use Rattle.std.proofs.Common.{◌≡◌, refl, sym, ◌∙◌, subst, ⊎_elim, true, false, ◌&&◌, ◌||◌, cond, List, ℕ, zero, suc, ◌^◌, ◌≤◌, ◌<◌, eq-or-lt_of_le, arith, ne_eqb, leb, eqb, pos}
+use borrow.Author.Tests.{lt-leb}
+use lib.Dec.{leb-zero}
 use lib.Ieee.{fin, binary32, of_bits, le}
 use Rattle.words.specs.Binary32.{decimal}
-use Rattle.score.specs.Rows.{row_words, row_at, note, timbre, morph, harmonics, restart, word_for}
-use Rattle.score.specs.Limits.{float_to, limit, row_within, first_bad}
+use Rattle.score.specs.Rows.{note, timbre, morph, harmonics, restart, word_for}
+use Rattle.score.specs.Limits.{float_to, limit, row_within}
 use Rattle.lists.proofs.Cases.{le_or_lt, and_false}
 use Rattle.score.proofs.Order.{word_size, finite_word, words_order, past_finite, minus_zero, below_zero}
 
@@ -61,26 +52,3 @@ pub row_words_lem : (row : List ℕ)
     ≡ row_within row
 unfolding row_within limit decimal of_bits
 row_words_lem row = rw (restart_word (word_for restart row))
-
--- ---- the first bad row: what the rows up to r leave to be looked at
-pub record Looked (n : ℕ) (rows : List ℕ) (r : ℕ) : Type 0 where
-  pub at : r ≤ n
-  pub rest : (l : ℕ) → r + l ≡ n → first_bad n rows ≡ r + first_bad l (drop (r * row_words) rows)
-
-pub looks : (n : ℕ) (rows : List ℕ) → Looked n rows 0
-looks n rows = record { at = zero-le; rest = λ l e. let q : n ≡ l = omega arith in rw q (omega arith) }
-
-next_row : (r : ℕ) (rows : List ℕ) → drop row_words (drop (r * row_words) rows) ≡ drop ((r + 1) * row_words) rows
-next_row r rows = let q : (r + 1) * 5 ≡ r * 5 + 5 = omega arith in drop-drop 5 (r * 5) rows ∙ sym (ap (λ (m : ℕ). drop m rows) q)
-
-pub looks_on : (n : ℕ) (rows : List ℕ) (r : ℕ) → Looked n rows r → r < n → row_within (row_at rows r) ≡ true → Looked n rows (r + 1)
-unfolding first_bad
-looks_on n rows r h l e = record { at = omega arith; rest = λ k f. let q = rw (e, next_row r rows) at (h.rest (suc k) (omega arith)) in omega arith }
-
-pub found : (n : ℕ) (rows : List ℕ) (r : ℕ) → Looked n rows r → r < n → row_within (row_at rows r) ≡ false → r ≡ first_bad n rows
-unfolding first_bad
-found n rows r h l e = let q = rw e at (h.rest (suc (n - r - 1)) (omega arith)) in omega arith
-
-pub none_found : (n : ℕ) (rows : List ℕ) (r : ℕ) → Looked n rows r → n ≤ r → r ≡ first_bad n rows
-unfolding first_bad
-none_found n rows r h l = let q = h.rest 0 (omega (arith, h.at)) in omega arith

@@ -1,6 +1,8 @@
--- Document 01, "Calls and their numbers", and document 02: the table's numbers, and a call's result.
-use Rattle.std.specs.Prelude.{ℕ, List, [], ◌∷◌}
+-- Document 01, "Calls and their numbers", and document 02: the table's numbers, what a test answers, and a call's result.
+use Rattle.std.specs.Prelude.{ℕ, List, [], ◌∷◌, ◌++◌, Result, Ok}
+use Rattle.std.specs.Fmt.{decimal}
 use Rattle.score.specs.declared.refusal.Refusal.{Refusal}
+use Rattle.score.specs.declared.refusal.Refusal.TheVariants.{Instrument, Rate, Block, Bank, Map, Rows, Take, Position, Limit, Names, Value, Space, Full, Paper}
 
 -- ---- the table
 
@@ -63,25 +65,63 @@ paper_number = 14
 
 -- ---- a refusal
 
--- "Result of a refusal: number and place"
-abbrev pub refusal : ℕ → ℕ → Refusal
-refusal number place = record { number = number; place = place }
+-- A refusal's number in the table.
+abbrev pub number_of : Refusal → ℕ
+number_of Instrument = instrument_number
+number_of Rate = rate_number
+number_of Block = block_number
+number_of Bank = bank_number
+number_of Map = map_number
+number_of Rows = rows_number
+number_of Take = take_number
+number_of (Position place) = position_number
+number_of (Limit place) = limit_number
+number_of Names = names_number
+number_of (Value place) = value_number
+number_of Space = space_number
+number_of Full = full_number
+number_of Paper = paper_number
+
+-- Its place: 8, 9 and 11 carry one, and the others have 0.
+abbrev pub place_of : Refusal → ℕ
+place_of Instrument = 0
+place_of Rate = 0
+place_of Block = 0
+place_of Bank = 0
+place_of Map = 0
+place_of Rows = 0
+place_of Take = 0
+place_of (Position place) = place
+place_of (Limit place) = place
+place_of Names = 0
+place_of (Value place) = place
+place_of Space = 0
+place_of Full = 0
+place_of Paper = 0
+
+-- Its text: the number and the place, one space (32) between.
+abbrev pub printed : Refusal → List ℕ
+printed r = decimal (number_of r) ++ (32 ∷ decimal (place_of r))
+
+-- What a test answers: a refusal, or that nothing is refused.
+abbrev pub Tested : Type 0
+Tested = Result (Unit {0}) Refusal
 
 -- Nothing is refused.
-abbrev pub accepted : Refusal
-accepted = refusal 0 0
+abbrev pub accepted : Tested
+accepted = Ok tt
 
 -- ---- the result of a call
 
 -- A call's number, and what it carries.
-pub record Result : Type 0 where
+pub record CallResult : Type 0 where
   pub number : ℕ
   pub values : List ℕ
 
 -- Success has number 0.
-abbrev pub done : List ℕ → Result
+abbrev pub done : List ℕ → CallResult
 done values = record { number = 0; values = values }
 
--- A refusal has its number, and carries its place.
-abbrev pub refused : Refusal → Result
-refused r = record { number = r.number; values = r.place ∷ [] }
+-- "Result of a refusal: number and place"
+abbrev pub refused : Refusal → CallResult
+refused r = record { number = number_of r; values = place_of r ∷ [] }

@@ -1,62 +1,81 @@
-// What a call refuses: the table's numbers, and a refusal.
-ghost use Rattle.std.specs.Prelude.{◌≡◌};
-ghost use Rattle.score.specs.Numbers.{accepted};
+// What a call refuses.
+ghost use Rattle.std.specs.Prelude.{◌≡◌, Some};
+ghost use Rattle.score.specs.Numbers.{number_of, place_of, printed};
 
-// Not 0 wavetable, 1 terrain, 2 terrain with map, 3 plain oscillator.
-pub const INSTRUMENT: u32 = 1;
+use std::fmt;
 
-// Outside 32,000 to 192,000 Hz.
-pub const RATE: u32 = 2;
-
-// Frames 0 or above 128.
-pub const BLOCK: u32 = 3;
-
-// A bank's length is not 25,344.
-pub const BANK: u32 = 4;
-
-// A map's length is not the instrument's.
-pub const MAP: u32 = 5;
-
-// A count of 0 or above 4,096, or fewer row words than 5 times it.
-pub const ROWS: u32 = 6;
-
-// A take is too short for the rows.
-pub const TAKE: u32 = 7;
-
-// The edited or removed row is not below the row count; or an insertion is above it.
-pub const POSITION: u32 = 8;
-
-// A word outside its name's limit.
-pub const LIMIT: u32 = 9;
-
-// The first line does not hold the names, or no LF ends it.
-pub const NAMES: u32 = 10;
-
-// A line does not hold a word for each name.
-pub const VALUE: u32 = 11;
-
-// Fewer lent words than the rows need.
-pub const SPACE: u32 = 12;
-
-// An insertion with no spare place in some buffer.
-pub const FULL: u32 = 13;
-
-// A lent text that is shorter than the score needs.
-pub const PAPER: u32 = 14;
-
-// The number and the place of a refusal; number 0 where nothing is refused.
-#[derive(Clone, Copy)]
-pub struct Refusal {
-    pub number: u32,
-    pub place: usize,
+// A refusal, with the place that it carries.
+#[derive(Clone, Copy, PartialEq, Eq, Debug)]
+pub enum Refusal {
+    // Not 0 wavetable, 1 terrain, 2 terrain with map, 3 plain oscillator.
+    Instrument,
+    // Outside 32,000 to 192,000 Hz.
+    Rate,
+    // Frames 0 or above 128.
+    Block,
+    // A bank's length is not 25,344.
+    Bank,
+    // A map's length is not the instrument's.
+    Map,
+    // A count of 0 or above 4,096, or fewer row words than 5 times it.
+    Rows,
+    // A take is too short for the rows.
+    Take,
+    // The edited or removed row is not below the row count; or an insertion is above it.
+    Position(usize),
+    // A row has a word outside its name's limit.
+    Limit(usize),
+    // The first line does not hold the names, or no LF ends it.
+    Names,
+    // A line does not hold a word for each name.
+    Value(usize),
+    // Fewer lent words than the rows need.
+    Space,
+    // An insertion with no spare place in some buffer.
+    Full,
+    // A lent text that is shorter than the score needs.
+    Paper,
 }
 
-// Nothing is refused.
-pub fn accepted() -> Refusal
-    ensures { result ≡ accepted }
-{
-    Refusal {
-        number: 0,
-        place: 0,
+impl Refusal {
+    // Its number in the table.
+    pub fn number(self) -> u32
+        ensures { result ≡ number_of self }
+    {
+        match self {
+            Refusal::Instrument => 1,
+            Refusal::Rate => 2,
+            Refusal::Block => 3,
+            Refusal::Bank => 4,
+            Refusal::Map => 5,
+            Refusal::Rows => 6,
+            Refusal::Take => 7,
+            Refusal::Position(_) => 8,
+            Refusal::Limit(_) => 9,
+            Refusal::Names => 10,
+            Refusal::Value(_) => 11,
+            Refusal::Space => 12,
+            Refusal::Full => 13,
+            Refusal::Paper => 14,
+        }
+    }
+
+    // Its place: 0 where it carries none.
+    pub fn place(self) -> usize
+        ensures { result ≡ place_of self }
+    {
+        match self {
+            Refusal::Position(place) | Refusal::Limit(place) | Refusal::Value(place) => place,
+            _ => 0,
+        }
+    }
+}
+
+impl fmt::Display for Refusal {
+    ghost output = { λ r. Some (printed r) };
+
+    // The number and the place, one space between.
+    fn fmt<W: fmt::Write>(&self, f: &mut fmt::Formatter<W>) -> fmt::Result {
+        write!(f, "{} {}", self.number(), self.place())
     }
 }

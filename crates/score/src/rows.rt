@@ -3,7 +3,7 @@ ghost use Rattle.std.specs.Prelude.{◌≡◌, ◌+◌, ◌*◌, ◌≤◌, ◌<
 ghost use Rattle.lists.specs.Lists.{same};
 ghost use Rattle.score.specs.Rows.{row_words, most_rows, wrong_rows, row_at, put_row, insert_row, remove_row, restarts};
 
-use lists::{copy_words, same_words, shift_down, shift_up};
+use lists::{shift_down, shift_up};
 
 // A row's words.
 pub const ROW_WORDS: usize = 5;
@@ -11,7 +11,7 @@ pub const ROW_WORDS: usize = 5;
 // The most rows of a score.
 pub const MOST_ROWS: usize = 4096;
 
-// The places of a row's words.
+// The places of a row's words: a row stays an array of words, as the C interface lends it.
 pub const NOTE: usize = 0;
 
 pub const TIMBRE: usize = 1;
@@ -27,13 +27,7 @@ pub fn wrong_rows(least: usize, largest: usize, count: usize, rows: usize) -> bo
     requires { largest ≤ most_rows }
     ensures { result ≡ wrong_rows least largest count rows }
 {
-    if count < least {
-        return true;
-    }
-    if count > largest {
-        return true;
-    }
-    rows < count * ROW_WORDS
+    count < least || count > largest || rows < count * ROW_WORDS
 }
 
 // The words of row k.
@@ -52,7 +46,7 @@ pub fn put_row(rows: &mut [u32], k: usize, row: [u32; ROW_WORDS])
 {
     let a = k * ROW_WORDS;
     let e = a + ROW_WORDS;
-    copy_words(&row, &mut rows[a..e]);
+    rows[a..e].copy_from_slice(&row);
 }
 
 // A row's words put between n rows, in place p: the rows from there on move up.
@@ -77,9 +71,7 @@ pub fn same_row(rows: &[u32], k: usize, row: [u32; ROW_WORDS]) -> bool
     requires { k * row_words + row_words ≤ length rows.now }
     ensures { result ≡ same (row_at rows.now k) row }
 {
-    let a = k * ROW_WORDS;
-    let e = a + ROW_WORDS;
-    same_words(&rows[a..e], &row)
+    row_at(rows, k) == row
 }
 
 // Whether a row restarts.

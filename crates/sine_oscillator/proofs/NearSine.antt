@@ -1,15 +1,11 @@
 -- The sine of a phase from 0 to below 8192 by one whole part, that of 512 times the phase: the fraction of the phase, its product with 512 and the
 -- product of the phase with 512 are exact, so the entry is the whole part modulo 512 and both fractions are the same number, rounded.
 use Rattle.std.specs.Prelude.{◌≡◌, ℕ, zero, suc, ◌+◌, ◌-◌, ◌*◌, ◌/◌, ◌%◌, ◌^◌, ◌<◌, ◌≤◌, Bool, true, false, ◌&&◌, T, eqb, ltb, leb, ℤ, pos, negsuc}
-use mathlib.Core.Path.{refl, sym, ap, ◌∙◌, subst}
-use mathlib.Core.Bool.{false≢true}
-use native.Mathlib.Nat.{mul_assoc, mul_right_comm, mul-one, one-mul, mul-le-mul_right, mod-lt, mod-eq_of_lt, mod-le, mod-one, le_trans, lt_of_le_of_lt}
-use native.Mathlib.Nat.{lt_of_lt_of_le, le_of_lt, le_of_eq, not-le_of_lt, zero-mul, div-add-mod', div-lt_iff_lt-mul, mul-add-div_right, mul-add-mod_self_right, min-eq_left}
-use native.Mathlib.Omega.{arith}
-use borrow.Author.Tests.{ltb-true, le-ltb, leb-true, leb-false}
-use lib.Dec.{lit<, lit≤, ltb→lt, leb→le, eqb→eq}
-use lib.Pow.{pow-add, pow_pos, pow_mono, pow-lt, shl_lt}
-use lib.Ieee.{Float, nan, inf, fin, binary32, up, down, lt, fits, round, of_int}
+use Rattle.std.proofs.Common.{refl, sym, ap, ◌∙◌, subst, mul_assoc, mul_right_comm, mul-one, one-mul, mul-le-mul_right, mod-lt, mod-eq_of_lt, le_trans, lt_of_le_of_lt, lt_of_lt_of_le, le_of_lt, le_of_eq, not-le_of_lt, zero-mul, div-add-mod', div-lt_iff_lt-mul, arith, ltb-true, le-ltb, leb-true, leb-false, lit<, lit≤, ltb→lt, leb→le, eqb→eq, pow-add, pow_pos, pow_mono, shl_lt, Float}
+use Rattle.std.proofs.Math.Bool.{false≢true}
+use Rattle.std.proofs.Math.Nat.{mod-le, mod-one, mul-add-div_right, mul-add-mod_self_right, min-eq_left}
+use Rattle.std.proofs.Math.Pow.{pow-lt}
+use Rattle.std.specs.Float.Ieee.{nan, inf, fin, binary32, up, down, lt, fits, round, of_int}
 use lib.Ieee.Fits.{and_l, and_r}
 use lib.Ieee.Exact.{HasValue, round_exact}
 use Rattle.words.specs.Binary32.{◌⊖◌, ◌⊗◌, decimal, of_count}

@@ -1,14 +1,10 @@
 -- The sine's table is never read past its end: for every phase the whole part is at most 512, and the last entry that has a next one is 639.
 -- What a clamp to 0 and 1 gives is NaN, a zero or at most 1, and a product with 512 is then at most 512, since rounding keeps order.
 use Rattle.std.specs.Prelude.{◌≡◌, ℕ, zero, suc, ◌-◌, ◌*◌, ◌/◌, ◌%◌, ◌^◌, ◌<◌, ◌≤◌, Bool, true, false, cond, ◌&&◌, ◌||◌, T, eqb, ltb, pos}
-use mathlib.Core.Path.{refl, sym, ap, ◌∙◌}
-use mathlib.Core.Bool.{true≢false}
-use Prim.Native.Nat.{zero-le, compare}
-use native.Mathlib.Nat.{min-le_left, le_trans, le_of_lt, le_of_eq, le_of_mul-le-mul_right, div-le_of_le-mul, mul_comm, mul-one, mul_right_comm}
-use native.Mathlib.Omega.{arith}
-use borrow.Author.Tests.{ltb-false, le-ltb}
-use lib.Dec.{ltb→lt, eqb→eq, lit<, lit≤}
-use lib.Ieee.{Float, nan, inf, fin, binary32, up, down, lt, le, eq, size, nearest, odd, units, mul, round, to_unsigned}
+use Rattle.std.proofs.Common.{refl, sym, ap, ◌∙◌, true≢false, zero-le, le_trans, le_of_lt, le_of_eq, le_of_mul-le-mul_right, mul_comm, mul-one, mul_right_comm, arith, ltb-false, le-ltb, ltb→lt, eqb→eq, lit<, lit≤, Float}
+use Prim.Native.Nat.{compare}
+use Rattle.std.proofs.Math.Nat.{min-le_left, div-le_of_le-mul}
+use Rattle.std.specs.Float.Ieee.{nan, inf, fin, binary32, up, down, lt, le, eq, size, nearest, odd, units, mul, round, to_unsigned}
 use lib.Ieee.Exact.{HasValue}
 use lib.Ieee.Order.{round_mono}
 use lib.Ieee.Back.{round_whole}

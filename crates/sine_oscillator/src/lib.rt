@@ -25,6 +25,7 @@ pub struct FastSineOscillator {
 }
 
 impl FastSineOscillator {
+    #[tactic(auto, unfolding(words::specs::Binary32::of_bits, words::specs::Binary32::decimal))]
     pub fn init() -> FastSineOscillator
         ensures { result ≡ path_fresh }
     {
@@ -36,7 +37,9 @@ impl FastSineOscillator {
         }
     }
 
-    // Sine and cosine, n samples of each, into the front of two lent runs. The oscillator that comes back goes on from there.
+    // Sine and cosine, n samples of each, into the front of two lent runs: memory is fixed, so these are lent whole. The oscillator that comes back goes on
+    // from there.
+    #[tactic(auto, unfolding(crate::specs::Path::path_after))]
     pub fn render_quadrature(
         self,
         frequency: f32,
@@ -50,7 +53,7 @@ impl FastSineOscillator {
         ensures out_after { out.new ≡ path_run self frequency amplitude n ++ drop n out.old }
         ensures out_2_after { out_2.new ≡ path_run2 self frequency amplitude n ++ drop n out_2.old }
     {
-        let q = Quadrature::new(self, frequency, amplitude, n).fill(n, out, out_2);
+        let q = Quadrature::new(self, frequency, amplitude, n).fill(&mut out[..n], &mut out_2[..n]);
         FastSineOscillator {
             x: q.x,
             y: q.y,
@@ -71,6 +74,7 @@ struct Quadrature {
 
 impl Quadrature {
     // Where `render_quadrature` starts.
+    #[tactic(auto, unfolding(crate::specs::Path::quadrature_of))]
     fn new(s: FastSineOscillator, frequency: f32, amplitude: f32, n: usize) -> Quadrature
         ensures { result ≡ quadrature_of s frequency amplitude n }
     {
@@ -99,32 +103,32 @@ impl Quadrature {
         Quadrature { x, y, epsilon, am }
     }
 
-    // n samples.
-    fn fill(self, n: usize, out: &mut [f32], out_2: &mut [f32]) -> Quadrature
-        requires { (n ≤ length out.old) × (n ≤ length out_2.old) }
-        ensures value { result ≡ state_after quadrature_next n self }
-        ensures out_after { out.new ≡ each_of quadrature_next quadrature_out n self ++ drop n out.old }
-        ensures out_2_after { out_2.new ≡ each_of quadrature_next quadrature_out2 n self ++ drop n out_2.old }
+    // A sample into each place of both.
+    fn fill(self, out: &mut [f32], out_2: &mut [f32]) -> Quadrature
+        requires { length out_2.old ≡ length out.old }
+        ensures value { result ≡ state_after quadrature_next (length out.old) self }
+        ensures out_after { out.new ≡ each_of quadrature_next quadrature_out (length out.old) self }
+        ensures out_2_after { out_2.new ≡ each_of quadrature_next quadrature_out2 (length out.old) self }
     {
         let mut q = self;
-        let mut i = 0;
-        while i < n {
+        for i in 0..out.len() {
             q = q.next();
             let amplitude = q.am.value;
             out[i] = q.x * amplitude;
             out_2[i] = q.y * amplitude;
-            i += 1;
         }
         q
     }
 }
 
+#[tactic(auto, unfolding(words::specs::Binary32::of_bits, words::specs::Binary32::decimal))]
 fn limited_frequency(frequency: f32) -> f32
     ensures { result ≡ limited_frequency frequency }
 {
     if frequency >= 0.25 { 0.25 } else { frequency }
 }
 
+#[tactic(auto, unfolding(words::specs::Binary32::of_bits, words::specs::Binary32::decimal))]
 fn limited_amplitude(frequency: f32, amplitude: f32) -> f32
     ensures { result ≡ limited_amplitude frequency amplitude }
 {
@@ -139,15 +143,14 @@ fn limited_amplitude(frequency: f32, amplitude: f32) -> f32
 fn on_circle(norm: f32, v: f32) -> f32
     ensures { result ≡ on_circle norm v }
 {
-    if norm <= 0.5 {
-        v * utils::rsqrt::fast_rsqrt_carmack(norm)
-    } else if norm >= 2.0 {
+    if norm <= 0.5 || norm >= 2.0 {
         v * utils::rsqrt::fast_rsqrt_carmack(norm)
     } else {
         v
     }
 }
 
+#[tactic(auto, unfolding(crate::specs::Path::fast2_sin, words::specs::Binary32::of_bits, words::specs::Binary32::decimal))]
 fn fast_2_sin(f: f32) -> f32
     ensures { result ≡ fast2_sin f }
 {

@@ -9,17 +9,16 @@ ghost use Rattle.sine_oscillator.specs.Sine.{lut_sine, sine_of};
 // Number of entries of a period.
 pub const LUT_SINE_SIZE: f32 = 512.0;
 
-// The table, to be made once by whoever lends it.
-pub fn sine_table() -> [f32; 641]
-    ensures { result ≡ lut_sine }
+// The table, to be lent.
+pub fn sine_table() -> &'static [f32; 641]
+    ensures { result.now ≡ lut_sine }
 {
-    LUT_SINE
+    &LUT_SINE
 }
 
 // The sine of a phase from 0 to below 8192: one whole part, of 512 times the phase.
-fn near_sine(table: &[f32], phase: f32) -> f32
-    requires table_len { length table.now ≡ 641 }
-    requires phase_value { (lt (from_bits binary32 0) phase ≡ true) × (lt phase (decimal 8192 0) ≡ true) }
+fn near_sine(table: &[f32; 641], phase: f32) -> f32
+    requires { (lt (from_bits binary32 0) phase ≡ true) × (lt phase (decimal 8192 0) ≡ true) }
     ensures { result ≡ sine_of table.now phase }
 {
     let part = words::held_part(phase * 512.0, 8388606);
@@ -31,6 +30,7 @@ fn near_sine(table: &[f32], phase: f32) -> f32
 }
 
 // The sine of any phase.
+#[tactic(auto, unfolding(words::specs::Binary32::of_bits, words::specs::Binary32::decimal))]
 fn far_sine(table: &[f32; 641], phase: f32) -> f32
     ensures { result ≡ sine_of table.now phase }
 {
@@ -38,22 +38,19 @@ fn far_sine(table: &[f32; 641], phase: f32) -> f32
 }
 
 // The sine of a phase in periods, by the table LUT_SINE, lent. Safe for every phase, will wrap from 0 on.
+#[tactic(auto, unfolding(words::specs::Binary32::of_bits, words::specs::Binary32::decimal))]
 pub fn sine(table: &[f32; 641], phase: f32) -> f32
     ensures { result ≡ sine_of table.now phase }
 {
-    if phase > 0.0 {
-        if phase < 8192.0 {
-            near_sine(table, phase)
-        } else {
-            far_sine(table, phase)
-        }
+    if phase > 0.0 && phase < 8192.0 {
+        near_sine(table, phase)
     } else {
         far_sine(table, phase)
     }
 }
 
 // Sine data.
-const LUT_SINE: [f32; 641] = [
+static LUT_SINE: [f32; 641] = [
     0.000000000e+00,
     1.227153829e-02,
     2.454122852e-02,

@@ -1,49 +1,33 @@
 -- The calls by their tests: a refusal, nothing to do, or a run.
-use mathlib.Core.Path.{◌≡◌, sym, ap, ◌∙◌}
-use mathlib.Core.List.{List}
-use mathlib.Core.Bool.{Bool, true, false}
-use Prim.Native.Nat.{ℕ, ◌+◌, ◌-◌, ◌*◌, ◌≤◌, ◌<◌}
-use native.Mathlib.Nat.{mul-le-mul_right}
-use native.Mathlib.Omega.{arith}
-use borrow.Author.Tests.{eq-eqb, ne_eqb, ltb-false}
-use lib.ListN.{length}
+use Rattle.std.proofs.Common.{◌≡◌, sym, ap, ◌∙◌, List, Bool, true, false, ℕ, ◌+◌, ◌-◌, ◌*◌, ◌≤◌, ◌<◌, length, Ok, Err, mul-le-mul_right, arith, ltb-false}
 use Rattle.lists.specs.Lists.{same}
 use Rattle.lists.proofs.Copying.{same_eq}
 use Rattle.lists.proofs.Places.{put_same}
 use Rattle.score.specs.declared.refusal.Refusal.{Refusal}
+use Rattle.score.specs.Numbers.{accepted}
 use Rattle.score.specs.Rows.{row_words, row_at, put_row, insert_row, remove_row}
 use Rattle.rows.specs.declared.Report.{Report}
 use Rattle.rows.specs.Rows.{Setup, Take, lent, fresh_start, words_before, room_at, closed_at, Run, nothing, reported, idle, stops_of, run_of}
-use Rattle.runs.specs.Inner.{Holding}
-use Rattle.refusals.specs.Calls.{Call, render, edit, insert, remove, count_after, rows_after, position, least_count, largest_count}
+use Rattle.runs.specs.Inner.{Holding, SameLengths}
+use Rattle.refusals.specs.declared.Call.{Call}
+use Rattle.refusals.specs.declared.Call.TheVariants.{Render, Edit, Insert, Remove}
+use Rattle.refusals.specs.Calls.{count_after, rows_after, position, least_count, largest_count}
 use Rattle.refusals.specs.Refusals.{wrong_position, full, refusal_of}
-use Rattle.take.specs.declared.Answer.TheVariants.{Done, Refused}
-use Rattle.take.specs.Take.{outcome, refused_by, ran, moved_by, stretch_end, renders_nothing, done_of, call_of}
+use Rattle.take.specs.Take.{outcome, ran, moved_by, stretch_end, renders_nothing, done_of, call_of}
 use Rattle.take.specs.Inner.{Retakable, Insertable, Removable}
-use Rattle.refusals.proofs.Accepted.{Usable, Accepted, accepted, is_below, spare_right}
+use Rattle.refusals.proofs.Accepted.{Usable, Accepted, is_below, spare_right}
 
 -- ---- A call: refused, or done.
 
 module _ (s : Setup) (n : ℕ) (rows : List ℕ) (t : Take) (c : Call) where
-  pub call_refused : ((refusal_of s n rows t c).number ≡ 0 → ⊥) → call_of s n rows t c ≡ refused_by (refusal_of s n rows t c) rows t
+  pub answers_refused : (r : Refusal) → refusal_of s n rows t c ≡ Err r → outcome (Err r) rows t ≡ call_of s n rows t c
   unfolding call_of
-  call_refused h = rw (ne_eqb (refusal_of s n rows t c).number 0 h)
+  answers_refused r e = rw e
 
-  pub call_done : (refusal_of s n rows t c).number ≡ 0 → call_of s n rows t c ≡ done_of s n rows t c
+  pub answers_done : refusal_of s n rows t c ≡ accepted → (p : Report) (new : List ℕ) (left : Take) → ran new (reported p left) ≡ done_of s n rows t c
+      → outcome (Ok p) new left ≡ call_of s n rows t c
   unfolding call_of
-  call_done z = rw (eq-eqb (refusal_of s n rows t c).number 0 z)
-
-  -- What the code answers.
-  module _ (r : Refusal) (e : r ≡ refusal_of s n rows t c) where
-    pub answers_refused : (r.number ≡ 0 → ⊥) → outcome (Refused r) rows t ≡ call_of s n rows t c
-    answers_refused h = ap (λ (x : Refusal). refused_by x rows t) e ∙ sym (call_refused (λ z. h (ap (λ (x : Refusal). x.number) e ∙ z)))
-
-    pub is_accepted : r.number ≡ 0 → Accepted s n rows t c
-    is_accepted z = accepted s n rows t c (ap (λ (x : Refusal). x.number) (sym e) ∙ z)
-
-    pub answers_done : r.number ≡ 0 → (p : Report) (new : List ℕ) (left : Take) → ran new (reported p left) ≡ done_of s n rows t c
-        → outcome (Done p) new left ≡ call_of s n rows t c
-    answers_done z p new left q = q ∙ sym (call_done (ap (λ (x : Refusal). x.number) (sym e) ∙ z))
+  answers_done e p new left q = q ∙ rw e
 
 -- ---- What an accepted call may count on.
 
@@ -60,15 +44,15 @@ holding s least largest n rows t m u =
     }
 
 module _ (s : Setup) (n : ℕ) (rows : List ℕ) (t : Take) where
-  pub render_holding : Accepted s n rows t render → (0 < n) × Holding s.frames n rows t
+  pub render_holding : Accepted s n rows t Render → (0 < n) × Holding s.frames n rows t
   unfolding least_count largest_count
   render_holding a = (a.lent_right.fit.count_least, holding s 1 4096 n rows t (omega arith) a.lent_right)
 
-  pub edit_retakable : (k : ℕ) (row : List ℕ) → Accepted s n rows t (edit k row) → Retakable s.frames n k rows t
+  pub edit_retakable : (k : ℕ) (row : List ℕ) → Accepted s n rows t (Edit k row) → Retakable s.frames n k rows t
   unfolding least_count largest_count wrong_position
   edit_retakable k row a = record { below = is_below k n a.positioned; holding = holding s 1 4096 n rows t (omega arith) a.lent_right }
 
-  pub insert_insertable : (p : ℕ) (row : List ℕ) → Accepted s n rows t (insert p row) → Insertable s.frames n p rows t
+  pub insert_insertable : (p : ℕ) (row : List ℕ) → Accepted s n rows t (Insert p row) → Insertable s.frames n p rows t
   unfolding least_count largest_count wrong_position full
   insert_insertable p row a =
       let u = a.lent_right in
@@ -86,7 +70,7 @@ module _ (s : Setup) (n : ℕ) (rows : List ℕ) (t : Take) where
         };
       }
 
-  pub remove_removable : (p : ℕ) → Accepted s n rows t (remove p) → Removable s.frames n p rows t
+  pub remove_removable : (p : ℕ) → Accepted s n rows t (Remove p) → Removable s.frames n p rows t
   unfolding least_count largest_count wrong_position
   remove_removable p a =
       record { some = a.lent_right.fit.count_least; below = is_below p n a.positioned; holding = holding s 2 4096 n rows t (omega arith) a.lent_right }
@@ -99,16 +83,15 @@ lent_is out out' aux aux' kept kept' o a k = rw (o, a, k)
 -- ---- What a call does.
 
 -- Lent words of the same lengths hold the rows too.
-pub holding_still : (frames n : ℕ) (rows rows' : List ℕ) (t t' : Take) → length rows' ≡ length rows → length t'.out ≡ length t.out
-    → length t'.aux ≡ length t.aux → length t'.kept ≡ length t.kept → Holding frames n rows t → Holding frames n rows' t'
-holding_still frames n rows rows' t t' e o a k h =
+pub holding_still : (frames n : ℕ) (rows rows' : List ℕ) (t t' : Take) → length rows' ≡ length rows → SameLengths t t' → Holding frames n rows t → Holding frames n rows' t'
+holding_still frames n rows rows' t t' e l h =
     record {
       frames_most = h.frames_most;
       rows_most = h.rows_most;
       rows_room = omega (arith, h.rows_room);
-      out_room = omega (arith, h.out_room);
-      aux_room = omega (arith, h.aux_room);
-      kept_room = omega (arith, h.kept_room);
+      out_room = omega (arith, h.out_room, l.out_long);
+      aux_room = omega (arith, h.aux_room, l.aux_long);
+      kept_room = omega (arith, h.kept_room, l.kept_long);
     }
 
 -- So are fewer rows.
@@ -126,13 +109,13 @@ fewer_holding frames n rows t h =
     }
 
 module _ (s : Setup) (n : ℕ) (rows : List ℕ) (t : Take) where
-  pub render_does : (p : Report) (left : Take) → reported p left ≡ run_of s rows n n 0 n t → ran rows (reported p left) ≡ done_of s n rows t render
+  pub render_does : (p : Report) (left : Take) → reported p left ≡ run_of s rows n n 0 n t → ran rows (reported p left) ≡ done_of s n rows t Render
   unfolding done_of count_after rows_after moved_by renders_nothing position stretch_end
   render_does p left q = ap (λ (x : Run). ran rows x) q
 
   module _ (k : ℕ) (row : List ℕ) where
     -- Equal words: nothing is written.
-    pub edit_idles : length row ≡ row_words → (p : Report) → same (row_at rows k) row ≡ true → p ≡ nothing → ran rows (reported p t) ≡ done_of s n rows t (edit k row)
+    pub edit_idles : length row ≡ row_words → (p : Report) → same (row_at rows k) row ≡ true → p ≡ nothing → ran rows (reported p t) ≡ done_of s n rows t (Edit k row)
     unfolding done_of count_after rows_after moved_by renders_nothing position stretch_end
     edit_idles five p w e =
         ap (λ (x : Report). ran rows (reported x t)) e
@@ -140,28 +123,28 @@ module _ (s : Setup) (n : ℕ) (rows : List ℕ) (t : Take) where
         ∙ rw w
 
     pub edit_does : (p : Report) (new : List ℕ) (left : Take) → same (row_at rows k) row ≡ false → new ≡ put_row rows k row
-        → reported p left ≡ run_of s new n n k (k + 1) t → ran new (reported p left) ≡ done_of s n rows t (edit k row)
+        → reported p left ≡ run_of s new n n k (k + 1) t → ran new (reported p left) ≡ done_of s n rows t (Edit k row)
     unfolding done_of count_after rows_after moved_by renders_nothing position stretch_end
     edit_does p new left w e q = rw e (ap (λ (x : Run). ran (put_row rows k row) x) (rw e at q) ∙ rw w)
 
   module _ (p : ℕ) (row : List ℕ) where
     pub insert_does : (r : Report) (new : List ℕ) (moved left : Take) → new ≡ insert_row n rows p row → moved ≡ room_at s.frames (fresh_start s) n t p
-        → reported r left ≡ run_of s new (n + 1) (n + 1) p (p + 1) moved → ran new (reported r left) ≡ done_of s n rows t (insert p row)
+        → reported r left ≡ run_of s new (n + 1) (n + 1) p (p + 1) moved → ran new (reported r left) ≡ done_of s n rows t (Insert p row)
     unfolding done_of count_after rows_after moved_by renders_nothing position stretch_end
     insert_does r new moved left e m q = rw e (ap (λ (x : Run). ran (insert_row n rows p row) x) (rw (e, m) at q))
 
   module _ (p : ℕ) (unchanged : Bool) (b : unchanged ≡ same (words_before s t.kept (p + 1)) (words_before s t.kept p)) (new : List ℕ) (e : new ≡ remove_row n rows p)
       (moved : Take) (m : moved ≡ closed_at s.frames n t p) where
-    stop_is : (x : Bool) → x ≡ stops_of (n - 1) new p unchanged → renders_nothing s n rows t (remove p) ≡ x
+    stop_is : (x : Bool) → x ≡ stops_of (n - 1) new p unchanged → renders_nothing s n rows t (Remove p) ≡ x
     unfolding renders_nothing
     stop_is x q = sym (q ∙ rw (e, b))
 
     pub remove_idles : (x : Bool) → x ≡ stops_of (n - 1) new p unchanged → x ≡ true → (r : Report) → r ≡ nothing
-        → ran new (reported r moved) ≡ done_of s n rows t (remove p)
+        → ran new (reported r moved) ≡ done_of s n rows t (Remove p)
     unfolding done_of count_after rows_after moved_by position stretch_end
     remove_idles x q y r z = rw (z, e, m, stop_is x q, y)
 
     pub remove_does : (x : Bool) → x ≡ stops_of (n - 1) new p unchanged → x ≡ false → (r : Report) (left : Take)
-        → reported r left ≡ run_of s new (n - 1) (n - 1) p (p + 1) moved → ran new (reported r left) ≡ done_of s n rows t (remove p)
+        → reported r left ≡ run_of s new (n - 1) (n - 1) p (p + 1) moved → ran new (reported r left) ≡ done_of s n rows t (Remove p)
     unfolding done_of count_after rows_after moved_by position stretch_end
     remove_does x q y r left z = rw (e, stop_is x q, y) (ap (λ (w : Run). ran (remove_row n rows p) w) (rw (e, m) at z))

@@ -1,271 +1,203 @@
 // Whole rendering of a score, and edits, insertions and removals of its rows, over lent words: the calls, with their refusals. The lent words
-// may be longer than the score; `count` says how many rows it has.
+// may be longer than the score; `count` says how many rows it has. They stand side by side, as the C interface lends them.
 #![tactic(auto)]
 
 ghost use Rattle.std.specs.Prelude.{◌≡◌, ◌+◌, ◌*◌, ◌≤◌, ◌<◌, length};
 ghost use Rattle.lists.specs.Lists.{same};
-ghost use Rattle.utils.specs.Units.{a0_of};
 ghost use Rattle.score.specs.Rows.{most_rows};
-ghost use Rattle.voice.specs.Voice.{Lent, kept_count, voice_of, fresh_state};
-ghost use Rattle.rows.specs.Rows.{setup, lent, before_row, room_at, closed_at, reported};
-ghost use Rattle.refusals.specs.Calls.{render, edit, insert, remove};
+ghost use Rattle.voice.specs.Voice.{Lent, kept_count};
+ghost use Rattle.runs.specs.Inner.{SameLengths};
+ghost use Rattle.rows.specs.Rows.{setup_by, words_of, SamePlaces, fresh_by, before_row, room_at, closed_at, reported};
+ghost use Rattle.refusals.specs.Refusals.{refusal_of};
 ghost use Rattle.take.specs.Take.{outcome, ran, done_of, call_of};
 ghost use Rattle.take.specs.Inner.{Retakable, Insertable, Removable};
 
-use rows::{Report, Settings};
+use refusals::Call;
+use rows::{Patch, Report, Settings, Take};
 use score::refusal::Refusal;
 use score::rows::ROW_WORDS;
 use voice::KEPT_WORDS;
 
-// What a call answers: what it rendered, or what it refuses.
-#[derive(Clone, Copy)]
-pub enum Answer {
-    Done(Report),
-    Refused(Refusal),
+// What a call refuses. A take that is lent to be written is read through `&` here: its parts cannot be handed on side by side through `&mut`.
+fn check(
+    patch: Patch<'_>,
+    rows: &[u32],
+    count: usize,
+    take: &Take<'_>,
+    call: Call,
+) -> Result<(), Refusal>
+    ensures { result ≡ refusal_of (setup_by patch.entry) count rows.now (words_of take.now) call }
+{
+    refusals::check(patch, rows, count, take.out, take.aux, take.kept, call)
 }
 
 // Whole rendering of a score.
 pub fn render(
-    settings: Settings,
-    bank: &[i16],
-    map: &[u8],
+    patch: Patch<'_>,
     rows: &[u32],
     count: usize,
-    out: &mut [u32],
-    aux: &mut [u32],
-    kept: &mut [u32],
-) -> Answer
-    ensures { outcome result rows.now (lent out.new aux.new kept.new)
-        ≡ call_of (setup settings bank.now map.now) count rows.now
-        (lent out.old aux.old kept.old) (render) }
+    take: &mut Take<'_>,
+) -> Result<Report, Refusal>
+    ensures same_places { SamePlaces take.old take.new }
+    ensures call { outcome result rows.now (words_of take.new)
+        ≡ call_of (setup_by patch.entry) count rows.now (words_of take.old) Call.Render }
 {
-    let refused = refusals::render_refusal(settings, bank, map, rows, count, out, aux, kept);
-    if refused.number != 0 {
-        return Answer::Refused(refused);
-    }
-    let report = runs::run(settings, bank, map, rows, count, 0, count, out, aux, kept);
-    Answer::Done(report)
+    check(patch, rows, count, take, Call::Render)?;
+    Ok(runs::run(patch, rows, count, 0, count, take))
 }
 
 // Row `position` gets other words, and what depends on it is rendered again; nothing where the words are equal.
 fn retake(
-    settings: Settings,
-    bank: &[i16],
-    map: &[u8],
+    patch: Patch<'_>,
     rows: &mut [u32],
     count: usize,
     position: usize,
     row: [u32; ROW_WORDS],
-    out: &mut [u32],
-    aux: &mut [u32],
-    kept: &mut [u32],
+    take: &mut Take<'_>,
 ) -> Report
-    requires lent { Lent bank.now map.now }
-    requires retakable { Retakable settings.frames count position rows.old (lent out.old aux.old kept.old) }
-    ensures { ran rows.new (reported result (lent out.new aux.new kept.new))
-        ≡ done_of (setup settings bank.now map.now) count rows.old
-        (lent out.old aux.old kept.old) (edit position row) }
+    requires lent { Lent patch.bank.now patch.map.now }
+    requires retakable { Retakable patch.settings.frames count position rows.old (words_of take.old) }
+    ensures same_places { SamePlaces take.old take.new }
+    ensures done { ran rows.new (reported result (words_of take.new))
+        ≡ done_of (setup_by patch.entry) count rows.old (words_of take.old) (Call.Edit position row) }
 {
-    let equal = score::rows::same_row(rows, position, row);
-    if equal {
-        return rows::nothing();
+    if score::rows::same_row(rows, position, row) {
+        return Report::default();
     }
     score::rows::put_row(rows, position, row);
-    let end = position + 1;
-    runs::run(
-        settings, bank, map, rows, count, position, end, out, aux, kept,
-    )
+    runs::run(patch, rows, count, position, position + 1, take)
 }
 
 // An edit: a row's words in the place of row `position`, and what depends on it rendered again.
 pub fn edit(
-    settings: Settings,
-    bank: &[i16],
-    map: &[u8],
+    patch: Patch<'_>,
     rows: &mut [u32],
     count: usize,
     position: usize,
     row: [u32; ROW_WORDS],
-    out: &mut [u32],
-    aux: &mut [u32],
-    kept: &mut [u32],
-) -> Answer
-    ensures { outcome result rows.new (lent out.new aux.new kept.new)
-        ≡ call_of (setup settings bank.now map.now) count rows.old
-        (lent out.old aux.old kept.old) (edit position row) }
+    take: &mut Take<'_>,
+) -> Result<Report, Refusal>
+    ensures same_places { SamePlaces take.old take.new }
+    ensures call { outcome result rows.new (words_of take.new)
+        ≡ call_of (setup_by patch.entry) count rows.old (words_of take.old) (Call.Edit position row) }
 {
-    let refused_edit = refusals::edit_refusal(
-        settings, bank, map, rows, count, position, row, out, aux, kept,
-    );
-    if refused_edit.number != 0 {
-        return Answer::Refused(refused_edit);
-    }
-    let retaken = retake(
-        settings, bank, map, rows, count, position, row, out, aux, kept,
-    );
-    Answer::Done(retaken)
+    check(patch, rows, count, take, Call::Edit(position, row))?;
+    Ok(retake(patch, rows, count, position, row, take))
 }
 
 // A place made for row p in a take of n rows.
-fn make_room(
-    settings: Settings,
-    n: usize,
-    p: usize,
-    out: &mut [u32],
-    aux: &mut [u32],
-    kept: &mut [u32],
-)
+fn make_room(settings: Settings, n: usize, p: usize, take: &mut Take<'_>)
     requires p_le_n { (p ≤ n) × (n < most_rows) }
-    requires frames_in_bounds { (n + 1) * settings.frames ≤ length out.old }
-    requires frames_in_bounds_2 { (n + 1) * settings.frames ≤ length aux.old }
-    requires kept_count_in_bounds { (n + 1) * kept_count ≤ length kept.old }
-    ensures { lent out.new aux.new kept.new
-        ≡ room_at settings.frames (fresh_state (voice_of settings.instrument) (a0_of settings.rate)) n
-        (lent out.old aux.old kept.old) p }
+    requires out_room { (n + 1) * settings.frames ≤ length take.old.out.now }
+    requires aux_room { (n + 1) * settings.frames ≤ length take.old.aux.now }
+    requires kept_room { (n + 1) * kept_count ≤ length take.old.kept.now }
+    ensures same_places { SamePlaces take.old take.new }
+    ensures lengths { SameLengths (words_of take.old) (words_of take.new) }
+    ensures room { words_of take.new ≡ room_at settings.frames (fresh_by settings) n (words_of take.old) p }
 {
-    lists::shift_up(out, settings.frames, p, n);
-    lists::shift_up(aux, settings.frames, p, n);
-    rows::make_room(settings.instrument, settings.rate, kept, n, p);
+    lists::shift_up(take.out, settings.frames, p, n);
+    lists::shift_up(take.aux, settings.frames, p, n);
+    settings.make_room(take.kept, n, p);
 }
 
 // A row's words put between the others, with its place in the take made, and what depends on it rendered.
 fn put_in(
-    settings: Settings,
-    bank: &[i16],
-    map: &[u8],
+    patch: Patch<'_>,
     rows: &mut [u32],
     count: usize,
     position: usize,
     row: [u32; ROW_WORDS],
-    out: &mut [u32],
-    aux: &mut [u32],
-    kept: &mut [u32],
+    take: &mut Take<'_>,
 ) -> Report
-    requires lent { Lent bank.now map.now }
-    requires insertable { Insertable settings.frames count position rows.old (lent out.old aux.old kept.old) }
-    ensures { ran rows.new (reported result (lent out.new aux.new kept.new))
-        ≡ done_of (setup settings bank.now map.now) count rows.old
-        (lent out.old aux.old kept.old) (insert position row) }
+    requires lent { Lent patch.bank.now patch.map.now }
+    requires insertable { Insertable patch.settings.frames count position rows.old (words_of take.old) }
+    ensures same_places { SamePlaces take.old take.new }
+    ensures done { ran rows.new (reported result (words_of take.new))
+        ≡ done_of (setup_by patch.entry) count rows.old (words_of take.old) (Call.Insert position row) }
 {
     score::rows::insert_row(rows, count, position, row);
-    make_room(settings, count, position, out, aux, kept);
-    let more = count + 1;
-    let next = position + 1;
-    runs::run(
-        settings, bank, map, rows, more, position, next, out, aux, kept,
-    )
+    make_room(patch.settings, count, position, take);
+    runs::run(patch, rows, count + 1, position, position + 1, take)
 }
 
 // An insertion: a row put in as row `position`, the later ones moved up, and what depends on it rendered.
 pub fn insert(
-    settings: Settings,
-    bank: &[i16],
-    map: &[u8],
+    patch: Patch<'_>,
     rows: &mut [u32],
     count: usize,
     position: usize,
     row: [u32; ROW_WORDS],
-    out: &mut [u32],
-    aux: &mut [u32],
-    kept: &mut [u32],
-) -> Answer
-    ensures { outcome result rows.new (lent out.new aux.new kept.new)
-        ≡ call_of (setup settings bank.now map.now) count rows.old
-        (lent out.old aux.old kept.old) (insert position row) }
+    take: &mut Take<'_>,
+) -> Result<Report, Refusal>
+    ensures same_places { SamePlaces take.old take.new }
+    ensures call { outcome result rows.new (words_of take.new)
+        ≡ call_of (setup_by patch.entry) count rows.old (words_of take.old) (Call.Insert position row) }
 {
-    let refused_insert = refusals::insert_refusal(
-        settings, bank, map, rows, count, position, row, out, aux, kept,
-    );
-    if refused_insert.number != 0 {
-        return Answer::Refused(refused_insert);
-    }
-    let report = put_in(
-        settings, bank, map, rows, count, position, row, out, aux, kept,
-    );
-    Answer::Done(report)
+    check(patch, rows, count, take, Call::Insert(position, row))?;
+    Ok(put_in(patch, rows, count, position, row, take))
 }
 
 // Row p of a take of n rows taken out.
-fn close_room(frames: usize, n: usize, p: usize, out: &mut [u32], aux: &mut [u32], kept: &mut [u32])
+fn close_room(frames: usize, n: usize, p: usize, take: &mut Take<'_>)
     requires p_lt_n { p < n }
-    requires frames_in_bounds { n * frames ≤ length out.old }
-    requires frames_in_bounds_2 { n * frames ≤ length aux.old }
-    requires kept_count_in_bounds { n * kept_count ≤ length kept.old }
-    ensures { lent out.new aux.new kept.new
-        ≡ closed_at frames n (lent out.old aux.old kept.old) p }
+    requires out_room { n * frames ≤ length take.old.out.now }
+    requires aux_room { n * frames ≤ length take.old.aux.now }
+    requires kept_room { n * kept_count ≤ length take.old.kept.now }
+    ensures same_places { SamePlaces take.old take.new }
+    ensures lengths { SameLengths (words_of take.old) (words_of take.new) }
+    ensures closed { words_of take.new ≡ closed_at frames n (words_of take.old) p }
 {
-    lists::shift_down(out, frames, p, n);
-    lists::shift_down(aux, frames, p, n);
-    lists::shift_down(kept, KEPT_WORDS, p, n);
+    lists::shift_down(take.out, frames, p, n);
+    lists::shift_down(take.aux, frames, p, n);
+    lists::shift_down(take.kept, KEPT_WORDS, p, n);
 }
 
 // Whether row p keeps the words of the state before it: then the row behind it has, once p is taken out, the state before it that it had.
-fn keeps_its_state(settings: Settings, kept: &[u32], p: usize) -> bool
-    requires { (p < most_rows) × ((p + 1) * kept_count ≤ length kept.now) }
+fn keeps_its_state(settings: Settings, take: &Take<'_>, p: usize) -> bool
+    requires { (p < most_rows) × ((p + 1) * kept_count ≤ length take.now.kept.now) }
     ensures { result
-        ≡ same (before_row (fresh_state (voice_of settings.instrument) (a0_of settings.rate)) kept.now (p + 1))
-        (before_row (fresh_state (voice_of settings.instrument) (a0_of settings.rate)) kept.now p) }
+        ≡ same (before_row (fresh_by settings) take.now.kept.now (p + 1))
+        (before_row (fresh_by settings) take.now.kept.now p) }
 {
-    let next = p + 1;
-    let had = rows::words_before(settings.instrument, settings.rate, kept, next);
-    let has = rows::words_before(settings.instrument, settings.rate, kept, p);
-    lists::same_words(&had, &has)
+    take.words_before(settings, p + 1) == take.words_before(settings, p)
 }
 
 // A row taken out, and what depends on that rendered again: nothing where a run would stop before the row now there.
 fn take_out(
-    settings: Settings,
-    bank: &[i16],
-    map: &[u8],
+    patch: Patch<'_>,
     rows: &mut [u32],
     count: usize,
     position: usize,
-    out: &mut [u32],
-    aux: &mut [u32],
-    kept: &mut [u32],
+    take: &mut Take<'_>,
 ) -> Report
-    requires lent { Lent bank.now map.now }
-    requires removable { Removable settings.frames count position rows.old (lent out.old aux.old kept.old) }
-    ensures { ran rows.new (reported result (lent out.new aux.new kept.new))
-        ≡ done_of (setup settings bank.now map.now) count rows.old
-        (lent out.old aux.old kept.old) (remove position) }
+    requires lent { Lent patch.bank.now patch.map.now }
+    requires removable { Removable patch.settings.frames count position rows.old (words_of take.old) }
+    ensures same_places { SamePlaces take.old take.new }
+    ensures done { ran rows.new (reported result (words_of take.new))
+        ≡ done_of (setup_by patch.entry) count rows.old (words_of take.old) (Call.Remove position) }
 {
-    let same = keeps_its_state(settings, kept, position);
+    let same = keeps_its_state(patch.settings, take, position);
     score::rows::remove_row(rows, count, position);
-    close_room(settings.frames, count, position, out, aux, kept);
+    close_room(patch.settings.frames, count, position, take);
     let fewer = count - 1;
-    let stop = rows::stops(rows, fewer, position, same);
-    if stop {
-        return rows::nothing();
+    if rows::stops(rows, fewer, position, same) {
+        return Report::default();
     }
-    let next = position + 1;
-    runs::run(
-        settings, bank, map, rows, fewer, position, next, out, aux, kept,
-    )
+    runs::run(patch, rows, fewer, position, position + 1, take)
 }
 
 // A removal: row `position` taken out, the later ones moved down, and what depends on that rendered again.
 pub fn remove(
-    settings: Settings,
-    bank: &[i16],
-    map: &[u8],
+    patch: Patch<'_>,
     rows: &mut [u32],
     count: usize,
     position: usize,
-    out: &mut [u32],
-    aux: &mut [u32],
-    kept: &mut [u32],
-) -> Answer
-    ensures { outcome result rows.new (lent out.new aux.new kept.new)
-        ≡ call_of (setup settings bank.now map.now) count rows.old
-        (lent out.old aux.old kept.old) (remove position) }
+    take: &mut Take<'_>,
+) -> Result<Report, Refusal>
+    ensures same_places { SamePlaces take.old take.new }
+    ensures call { outcome result rows.new (words_of take.new)
+        ≡ call_of (setup_by patch.entry) count rows.old (words_of take.old) (Call.Remove position) }
 {
-    let refused_remove = refusals::remove_refusal(
-        settings, bank, map, rows, count, position, out, aux, kept,
-    );
-    if refused_remove.number != 0 {
-        return Answer::Refused(refused_remove);
-    }
-    let report = take_out(settings, bank, map, rows, count, position, out, aux, kept);
-    Answer::Done(report)
+    check(patch, rows, count, take, Call::Remove(position))?;
+    Ok(take_out(patch, rows, count, position, take))
 }

@@ -1,5 +1,5 @@
 -- Document 01, "Bench values", of the map's edge, computed.
-use mathlib.Core.Path.{◌≡◌, refl}
+use Rattle.std.proofs.Common.{◌≡◌, refl}
 use Rattle.utils.specs.Holds.{of_map}
 use Rattle.terrain.specs.Heights.{map_place}
 

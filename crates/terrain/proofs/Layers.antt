@@ -1,15 +1,6 @@
 -- Which layers there are: the map's is there only with a map. And what a layer holds.
-use mathlib.Core.Path.{◌≡◌, refl}
-use mathlib.Core.Logic.{◌⊎◌, inl, inr}
-use mathlib.Core.Bool.{Bool, true, false, cond}
-use mathlib.Core.List.{List}
-use Prim.Native.Nat.{ℕ, ◌+◌, ◌-◌, ◌*◌, ◌≤◌}
-use native.Mathlib.Omega.{arith}
+use Rattle.std.proofs.Common.{◌≡◌, refl, ◌⊎◌, inl, inr, Bool, true, false, cond, List, ℕ, ◌+◌, ◌-◌, ◌*◌, ◌≤◌, arith, eqb, leb, ltb, ℤ, length, Float}
 use borrow.Author.Tests.{eqb-false}
-use lib.Dec.{eqb, leb, ltb}
-use lib.IntN.{ℤ}
-use lib.ListN.{length}
-use lib.Ieee.{Float}
 use Rattle.words.specs.Binary32.{◌⊕◌, ◌⊗◌, decimal, of_count}
 use Rattle.words.specs.Parts.{whole_part}
 use Rattle.utils.specs.Holds.{none, of_map, of_bank, AtMost, OfReadings}

@@ -1,14 +1,8 @@
 -- A place is at most its edge, and it is the same for whole parts that are cut off above every edge: then both sums are past the edge, or they are one.
 -- What it held is counted by its number.
-use mathlib.Core.Path.{◌≡◌, refl, sym, ap, ◌∙◌, subst}
-use mathlib.Core.Logic.{◌⊎◌, inl, inr}
-use mathlib.Core.Bool.{Bool, true, false, cond}
-use Prim.Native.Nat.{ℕ, ◌+◌, ◌-◌, ◌*◌, ◌≤◌, ◌<◌, min}
+use Rattle.std.proofs.Common.{◌≡◌, refl, sym, ap, ◌∙◌, subst, ◌⊎◌, inl, inr, Bool, true, false, cond, ℕ, ◌+◌, ◌-◌, ◌*◌, ◌≤◌, ◌<◌, min, arith, lt-ltb, le-ltb, ltb-true, ltb-false, ltb, Float}
 use native.Mathlib.Nat.{min-le_right, min-eq_left, min-eq_right}
-use native.Mathlib.Omega.{arith}
-use borrow.Author.Tests.{lt-ltb, le-ltb, ltb-true, ltb-false}
-use lib.Dec.{ltb}
-use lib.Ieee.{Float, mul, of_int, round}
+use Rattle.std.specs.Float.Ieee.{mul, of_int, round}
 use Rattle.words.specs.Binary32.{◌⊖◌, ◌⊗◌, decimal, of_count}
 use Rattle.words.specs.Parts.{whole_part, whole_float, part_of}
 use Rattle.words.specs.declared.Part.{Part}
@@ -20,10 +14,10 @@ use Rattle.terrain.specs.Reach.{reach}
 use Rattle.terrain.specs.Tally.{tally, place_by}
 use Rattle.terrain.specs.declared.Place.{Place}
 
-pub place_past : (hold edge flat : ℕ) → edge < flat → place_by hold edge flat ≡ record { flat = edge; held = hold }
+place_past : (hold edge flat : ℕ) → edge < flat → place_by hold edge flat ≡ record { flat = edge; held = hold }
 place_past hold edge flat h = rw (lt-ltb edge flat h, min-eq_right {n = edge} {m = flat} (omega arith))
 
-pub place_within : (hold edge flat : ℕ) → flat ≤ edge → place_by hold edge flat ≡ record { flat = flat; held = 0 }
+place_within : (hold edge flat : ℕ) → flat ≤ edge → place_by hold edge flat ≡ record { flat = flat; held = 0 }
 place_within hold edge flat h = rw (le-ltb edge flat h, min-eq_left h)
 
 pub place_most : (r : Place) (hold edge flat : ℕ) → r ≡ place_by hold edge flat → r.flat ≤ edge

@@ -1,8 +1,6 @@
 -- The number of holds goes over from readings to sums of them, and the holds come back from it, where they are few.
-use mathlib.Core.Path.{◌≡◌, ap, ◌∙◌}
-use Prim.Native.Nat.{ℕ, zero, ◌+◌, ◌*◌, ◌/◌, ◌%◌, ◌≤◌, ◌<◌}
-use native.Mathlib.Nat.{mod-eq_of_lt, div-eq_of_lt, add-mul-mod_self_right, add-mul-div_right}
-use native.Mathlib.Omega.{arith}
+use Rattle.std.proofs.Common.{◌≡◌, ap, ◌∙◌, ℕ, zero, ◌+◌, ◌*◌, ◌/◌, ◌%◌, ◌≤◌, ◌<◌, mod-eq_of_lt, arith}
+use native.Mathlib.Nat.{div-eq_of_lt, add-mul-mod_self_right, add-mul-div_right}
 use Rattle.utils.specs.Holds.{plus, AtMost, OfReadings}
 use Rattle.utils.specs.declared.holds.Holds.{Holds}
 use Rattle.utils.proofs.Sums.{same_counts}

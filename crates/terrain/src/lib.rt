@@ -6,17 +6,28 @@ ghost use Rattle.std.specs.Prelude.{◌≡◌, ◌+◌, ◌≤◌, min, length};
 ghost use Rattle.words.specs.Binary32.{◌⊖◌};
 ghost use Rattle.words.specs.Parts.{whole_part, whole_float};
 ghost use Rattle.oscillator.specs.Bank.{bank_length};
-ghost use Rattle.terrain.specs.Layers.{Lent, num_terrains, layer_top};
+ghost use Rattle.terrain.specs.Layers.{Lent, Lent-prop, num_terrains, layer_top};
 ghost use Rattle.terrain.specs.Reach.{reach};
 ghost use Rattle.terrain.specs.Tally.{place_by, counted, holds_by};
 ghost use Rattle.terrain.specs.Heights.{map_length, squash_of, terrain0, terrain1, terrain2, terrain3, terrain4, terrain_lookup, terrain_lookup_wt, unheld, terrain_of};
 
 use oscillator::bank::{TABLE_SIZE_F, WAVE_LENGTH};
-use oscillator::wavetable_oscillator::{interpolate_integrated_wave, interpolate_wave_u8};
+use oscillator::wavetable_oscillator::{interpolate_integrated_wave, interpolate_wave};
 use sine_oscillator::sine::sine;
 use utils::holds::Holds;
 
-// A height, and what its reading held, in one number: 0, or MAP_HELD or BANK_HELD. So a loop over readings has one addition for all counts.
+// What heights are read off, lent: the sine's table, a bank, and a map or none.
+// A map that is not there is a slice of length 0, since the C interface lends it so.
+#[derive(Clone, Copy)]
+pub struct Ground<'a> {
+    pub sine: &'a [f32; 641],
+    pub bank: &'a [i16],
+    pub map: &'a [u8],
+    ghost lent: { Lent bank.now map.now } by { Lent-prop bank.now map.now },
+}
+
+// A height, and what its reading held.
+// The hold is one number, 0 or MAP_HELD or BANK_HELD, for speed: a loop over readings has one addition for all counts.
 #[derive(Clone, Copy)]
 pub struct Height {
     pub value: f32,
@@ -72,6 +83,7 @@ const REACH: usize = 65535;
 // Thus, all calls to Sine include a positive offset of the argument!
 const K: f32 = 4.0;
 
+#[tactic(auto, unfolding(words::specs::Binary32::of_bits, words::specs::Binary32::decimal))]
 fn squash(x: f32, a: f32) -> f32
     ensures { result ≡ squash_of x a }
 {
@@ -81,12 +93,14 @@ fn squash(x: f32, a: f32) -> f32
 }
 
 // Layers 0 to 4, by formula.
+#[tactic(auto, unfolding(words::specs::Binary32::of_bits, words::specs::Binary32::decimal, crate::specs::Heights::terrain0))]
 fn terrain_0(table: &[f32; 641], x: f32, y: f32) -> f32
     ensures { result ≡ terrain0 table.now x y }
 {
     (squash(sine(table, K + x * 1.273), 2.0) - sine(table, K + y * (x + 1.571) * 0.637)) * 0.57
 }
 
+#[tactic(auto, unfolding(words::specs::Binary32::of_bits, words::specs::Binary32::decimal, crate::specs::Heights::terrain1))]
 fn terrain_1(table: &[f32; 641], x: f32, y: f32) -> f32
     ensures { result ≡ terrain1 table.now x y }
 {
@@ -97,6 +111,7 @@ fn terrain_1(table: &[f32; 641], x: f32, y: f32) -> f32
     )
 }
 
+#[tactic(auto, unfolding(words::specs::Binary32::of_bits, words::specs::Binary32::decimal, crate::specs::Heights::terrain2))]
 fn terrain_2(table: &[f32; 641], x: f32, y: f32) -> f32
     ensures { result ≡ terrain2 table.now x y }
 {
@@ -107,6 +122,7 @@ fn terrain_2(table: &[f32; 641], x: f32, y: f32) -> f32
     )
 }
 
+#[tactic(auto, unfolding(words::specs::Binary32::of_bits, words::specs::Binary32::decimal, crate::specs::Heights::terrain3))]
 fn terrain_3(table: &[f32; 641], x: f32, y: f32) -> f32
     ensures { result ≡ terrain3 table.now x y }
 {
@@ -115,6 +131,7 @@ fn terrain_3(table: &[f32; 641], x: f32, y: f32) -> f32
     sine(table, K + xy / (2.0 + utils::abs(5.0 * xys)) * 6.366)
 }
 
+#[tactic(auto, unfolding(words::specs::Binary32::of_bits, words::specs::Binary32::decimal, crate::specs::Heights::terrain4))]
 fn terrain_4(table: &[f32; 641], x: f32, y: f32) -> f32
     ensures { result ≡ terrain4 table.now x y }
 {
@@ -127,6 +144,7 @@ fn terrain_4(table: &[f32; 641], x: f32, y: f32) -> f32
 }
 
 // The fraction is taken against the true whole part.
+#[tactic(auto, using(crate::proofs::Places::whole_cut, crate::proofs::Places::fraction_within))]
 fn coordinate_at(x: f32) -> Coordinate
     ensures whole_value { result.whole ≡ min (whole_part x) reach }
     ensures fraction_value { result.fraction ≡ x ⊖ whole_float x }
@@ -160,6 +178,7 @@ fn held_place(hold: u32, edge: usize, flat: usize) -> Place
 }
 
 // The map's height at a point.
+#[tactic(auto, using(crate::proofs::Places::place_most))]
 fn terrain_lookup(map: &[u8], x: f32, y: f32) -> Height
     requires { length map.now ≡ map_length }
     ensures { result ≡ counted (terrain_lookup map.now x y) }
@@ -167,8 +186,8 @@ fn terrain_lookup(map: &[u8], x: f32, y: f32) -> Height
     let cx = coordinate_at((x + 1.0) * COORD_SCALE);
     let cy = coordinate_at((y + 1.0) * COORD_SCALE);
     let place = held_place(MAP_HELD, MAP_EDGE, TERRAIN_SIZE * cy.whole + cx.whole);
-    let near = interpolate_wave_u8(map, place.flat, cx.fraction);
-    let far = interpolate_wave_u8(map, place.flat + TERRAIN_SIZE, cx.fraction);
+    let near = interpolate_wave(map, place.flat, cx.fraction);
+    let far = interpolate_wave(map, place.flat + TERRAIN_SIZE, cx.fraction);
     Height {
         value: (near + (far - near) * cy.fraction) * (1.0 / 128.0),
         held: place.held,
@@ -177,6 +196,7 @@ fn terrain_lookup(map: &[u8], x: f32, y: f32) -> Height
 
 // Lookup from the wavetable data re-interpreted as a terrain. :facepalm:
 // `number` picks one of the three terrains in the bank.
+#[tactic(auto, using(crate::proofs::Places::place_most))]
 fn terrain_lookup_wt(bank: &[i16], x: f32, y: f32, number: usize) -> Height
     requires { (length bank.now ≡ bank_length) × (number ≤ 2) }
     ensures { result ≡ counted (terrain_lookup_wt bank.now x y number) }
@@ -203,29 +223,25 @@ fn unheld(value: f32) -> Height
     Height { value, held: 0 }
 }
 
-// The height of a layer: 0 to 7, and 8 with a map.
-pub fn terrain(
-    table: &[f32; 641],
-    bank: &[i16],
-    map: &[u8],
-    x: f32,
-    y: f32,
-    terrain_index: usize,
-) -> Height
-    requires lent { Lent bank.now map.now }
-    requires terrain_index_bound { terrain_index ≤ layer_top map.now + 1 }
-    ensures { result ≡ counted (terrain_of table.now bank.now map.now x y terrain_index) }
-{
-    match terrain_index {
-        0 => unheld(terrain_0(table, x, y)),
-        1 => unheld(terrain_1(table, x, y)),
-        2 => unheld(terrain_2(table, x, y)),
-        3 => unheld(terrain_3(table, x, y)),
-        4 => unheld(terrain_4(table, x, y)),
-        5 => terrain_lookup_wt(bank, x, y, 2),
-        6 => terrain_lookup_wt(bank, x, y, 1),
-        7 => terrain_lookup_wt(bank, x, y, 0),
-        _ => terrain_lookup(map, x, y),
+impl Ground<'_> {
+    // The height of a layer: 0 to 7, and 8 with a map.
+    // The layer is a number, since it is the whole part of a float on its way, and the next one up is read too.
+    #[tactic(auto, using(crate::proofs::Layers::map_there, crate::proofs::Layers::map_layer_lem), unfolding(crate::specs::Heights::terrain_of))]
+    pub fn terrain(&self, x: f32, y: f32, terrain_index: usize) -> Height
+        requires { terrain_index ≤ layer_top self.now.map.now + 1 }
+        ensures { result ≡ counted (terrain_of self.now.sine.now self.now.bank.now self.now.map.now x y terrain_index) }
+    {
+        match terrain_index {
+            0 => unheld(terrain_0(self.sine, x, y)),
+            1 => unheld(terrain_1(self.sine, x, y)),
+            2 => unheld(terrain_2(self.sine, x, y)),
+            3 => unheld(terrain_3(self.sine, x, y)),
+            4 => unheld(terrain_4(self.sine, x, y)),
+            5 => terrain_lookup_wt(self.bank, x, y, 2),
+            6 => terrain_lookup_wt(self.bank, x, y, 1),
+            7 => terrain_lookup_wt(self.bank, x, y, 0),
+            _ => terrain_lookup(self.map, x, y),
+        }
     }
 }
 
@@ -237,11 +253,9 @@ pub fn holds_of(held: u32) -> Holds
     let bank = (held % MAP_HELD) as usize;
     Holds {
         held: map + bank,
-        phase: 0,
-        wave_position: 0,
-        level: 0,
         map,
         bank,
+        ..Holds::default()
     }
 }
 
@@ -249,12 +263,12 @@ pub fn holds_of(held: u32) -> Holds
 pub fn num_terrains(map: &[u8]) -> usize
     ensures { result ≡ num_terrains map.now }
 {
-    if map.len() == 0 { 8 } else { 9 }
+    if map.is_empty() { 8 } else { 9 }
 }
 
 // The top of the whole layer number.
 pub fn layer_top(map: &[u8]) -> usize
     ensures { result ≡ layer_top map.now }
 {
-    if map.len() == 0 { TOP } else { TOP_WITH_MAP }
+    if map.is_empty() { TOP } else { TOP_WITH_MAP }
 }

@@ -1,14 +1,6 @@
 -- Digits and words, byte by byte: a run of bytes of a text is the list of its bytes, and two halves of a word make the word.
-use mathlib.Core.Path.{◌≡◌, refl, sym, ap, ◌∙◌}
-use mathlib.Core.Bool.{Bool, true, false, ◌&&◌, ◌||◌, cond, false≢true}
-use mathlib.Core.List.{List, [], ◌∷◌, ◌++◌}
-use Prim.Native.Nat.{ℕ, zero, suc, ◌+◌, ◌-◌, ◌*◌, ◌/◌, ◌%◌, ◌^◌, ◌≤◌, ◌<◌, zero-le, suc-le-suc}
-use native.Mathlib.Nat.{add-suc, add-zero, mul-le-mul_right, mul_assoc, mul_comm, pow-suc}
-use native.Mathlib.Omega.{arith}
-use borrow.Author.Tests.{leb-true, eqb-true}
-use lib.Dec.{leb, eqb}
-use lib.ListN.{length, get_or, take, drop, length-drop}
-use lib.Seq.{drop-cons, take-add, drop-drop, length-take-le}
+use Rattle.std.proofs.Common.{◌≡◌, refl, sym, ap, ◌∙◌, Bool, true, false, ◌&&◌, ◌||◌, cond, List, [], ◌∷◌, ◌++◌, ℕ, zero, suc, ◌+◌, ◌-◌, ◌*◌, ◌/◌, ◌%◌, ◌^◌, ◌≤◌, ◌<◌, zero-le, suc-le-suc, add-suc, add-zero, mul-le-mul_right, mul_assoc, mul_comm, pow-suc, arith, leb-true, eqb-true, leb, eqb, length, get_or, take, drop, length-drop, drop-cons, take-add, drop-drop, length-take-le}
+use mathlib.Core.Bool.{false≢true}
 use Rattle.text.specs.Text.{between, is_digit, digit_of, each_digit, word_digits, is_word, followed_by, word_of}
 use Rattle.lists.proofs.Cases.{both, and_true}
 

@@ -1,14 +1,7 @@
 -- The lines of a text, from the front: what the first LF ends is the first line, and the others are the lines of what follows.
-use mathlib.Core.Path.{◌≡◌, refl, sym, ap, ◌∙◌}
-use mathlib.Core.List.{List, [], ◌∷◌}
-use mathlib.Core.Bool.{Bool, true, false, cond}
-use Prim.Native.Nat.{ℕ, suc, ◌+◌, ◌≤◌, ◌<◌}
-use native.Mathlib.Numerals.{add-one}
-use native.Mathlib.Omega.{arith}
-use lib.Dec.{eqb}
-use lib.ListN.{length, take, drop, drop_of_length-le}
-use lib.Seq.{take_all, drop-cons}
-use Rattle.text.specs.Text.{lf, on_first, split, ended, unended, lined, lines_of, first_of, rest_of}
+use Rattle.std.proofs.Common.{◌≡◌, refl, sym, ap, ◌∙◌, List, [], ◌∷◌, Bool, true, false, cond, ℕ, suc, ◌+◌, ◌≤◌, ◌<◌, add-one, arith, eqb, length, take, drop, drop_of_length-le, take_all, drop-cons}
+use Rattle.std.specs.List.{onto_first}
+use Rattle.text.specs.Text.{lf, split, ended, unended, lined, lines_of, first_of, rest_of}
 use Rattle.text.proofs.Split.{reach, first_piece}
 
 lined_ended : (p q : List ℕ) (qs ps : List (List ℕ)) → ps ≡ q ∷ qs → lined (p ∷ ps) ≡ ended p ∷ lined ps
@@ -37,7 +30,7 @@ module _ (text : List ℕ) where
       ∙ rw (take_all (reach lf text) text h, drop_of_length-le text h) (lined_open text)
 
 -- ---- whether there is a line
-lined_some : (b : ℕ) (ps : List (List ℕ)) → lined (on_first b ps) ≡ first_of (lined (on_first b ps)) ∷ rest_of (lined (on_first b ps))
+lined_some : (b : ℕ) (ps : List (List ℕ)) → lined (onto_first b ps) ≡ first_of (lined (onto_first b ps)) ∷ rest_of (lined (onto_first b ps))
 lined_some b [] = refl
 lined_some b ([] ∷ []) = refl
 lined_some b ((x ∷ q) ∷ []) = refl
@@ -49,8 +42,8 @@ unfolding lines_of split
 some_line [] h = absurd (omega arith)
 some_line (b ∷ text) h = go (eqb b lf)
   where
-    go : (t : Bool) → lined (cond t ([] ∷ split lf text) (on_first b (split lf text)))
-        ≡ first_of (lined (cond t ([] ∷ split lf text) (on_first b (split lf text)))) ∷ rest_of (lined (cond t ([] ∷ split lf text) (on_first b (split lf text))))
+    go : (t : Bool) → lined (cond t ([] ∷ split lf text) (onto_first b (split lf text)))
+        ≡ first_of (lined (cond t ([] ∷ split lf text) (onto_first b (split lf text)))) ∷ rest_of (lined (cond t ([] ∷ split lf text) (onto_first b (split lf text))))
     go true = rw (lined_cut [] text)
     go false = lined_some b (split lf text)
 

@@ -1,12 +1,9 @@
 -- Pieces joined by a byte that none of them has are cut apart again, and the pieces of a text, joined, are the text; the same of lines and texts.
-use mathlib.Core.Path.{◌≡◌, refl, sym, ap, ◌∙◌}
-use mathlib.Core.Bool.{Bool, true, false, not, ◌&&◌, cond, false≢true}
-use mathlib.Core.List.{List, [], ◌∷◌, ◌++◌, map, append_assoc}
-use Prim.Native.Nat.{ℕ}
-use borrow.Author.Tests.{eq-eqb, eqb-true}
-use lib.Dec.{eqb}
-use Rattle.text.specs.Text.{lf, space, on_first, split, joined, fields_of, Line, ended, unended, contents, lined, lines_of, text_of}
-use Rattle.text.proofs.Split.{first_piece}
+use Rattle.std.proofs.Common.{◌≡◌, refl, ap, ◌∙◌, Bool, true, false, not, ◌&&◌, List, [], ◌∷◌, ◌++◌, map, append_assoc, ℕ, eq-eqb, eqb}
+use mathlib.Core.Bool.{false≢true}
+use Rattle.std.specs.List.{onto_first}
+use Rattle.std.proofs.lemmas.List.Splits.{join_with_byte-slice_split}
+use Rattle.text.specs.Text.{lf, space, split, joined, fields_of, Line, ended, unended, contents, lined, lines_of, text_of}
 use Rattle.text.proofs.FirstLine.{lined_cut, no_line}
 use Rattle.lists.proofs.Cases.{both}
 
@@ -30,14 +27,14 @@ module _ (at : ℕ) where
   split_behind [] rest e = rw (eq-eqb at at refl)
   split_behind (b ∷ p) rest e =
       let d = both _ _ e in
-      rw (unequal (eqb b at) d.0) (ap (on_first b) (split_behind p rest d.1))
+      rw (unequal (eqb b at) d.0) (ap (onto_first b) (split_behind p rest d.1))
 
   split_whole : (p : List ℕ) → lacks at p ≡ true → split at p ≡ p ∷ []
   unfolding split
   split_whole [] e = refl
   split_whole (b ∷ p) e =
       let d = both _ _ e in
-      rw (unequal (eqb b at) d.0) (ap (on_first b) (split_whole p d.1))
+      rw (unequal (eqb b at) d.0) (ap (onto_first b) (split_whole p d.1))
 
   pub split_joined : (p : List ℕ) (ps : List (List ℕ)) → each_lacks at (p ∷ ps) ≡ true → split at (joined at (p ∷ ps)) ≡ p ∷ ps
   unfolding joined
@@ -47,26 +44,9 @@ module _ (at : ℕ) where
       split_behind p (joined at (q ∷ ps)) d.0 ∙ ap (λ (qs : List (List ℕ)). p ∷ qs) (split_joined q ps d.1)
 
   -- ---- the pieces of a text
-  joined_on : (b : ℕ) (p : List ℕ) (ps : List (List ℕ)) → joined at ((b ∷ p) ∷ ps) ≡ b ∷ joined at (p ∷ ps)
-  unfolding joined
-  joined_on b p [] = refl
-  joined_on b p (q ∷ ps) = refl
-
-  joined_cut : (p q : List ℕ) (qs ps : List (List ℕ)) → ps ≡ q ∷ qs → joined at (p ∷ ps) ≡ p ++ at ∷ joined at ps
-  unfolding joined
-  joined_cut p q qs ps e = rw e
-
-  joined_first : (b : ℕ) (p : List ℕ) (ps qs : List (List ℕ)) → qs ≡ p ∷ ps → joined at (on_first b qs) ≡ b ∷ joined at qs
-  joined_first b p ps qs e = rw e (joined_on b p ps)
-
   pub joined_split : (text : List ℕ) → joined at (split at text) ≡ text
   unfolding split joined
-  joined_split [] = refl
-  joined_split (b ∷ text) = go (eqb b at) refl (joined_split text)
-    where
-      go : (t : Bool) → eqb b at ≡ t → joined at (split at text) ≡ text → joined at (cond t ([] ∷ split at text) (on_first b (split at text))) ≡ b ∷ text
-      go true e h = joined_cut [] _ _ (split at text) (first_piece at text) ∙ ap (λ (z : List ℕ). at ∷ z) h ∙ ap (λ (z : ℕ). z ∷ text) (sym (eqb-true b at e))
-      go false e h = joined_first b _ _ (split at text) (first_piece at text) ∙ ap (λ (z : List ℕ). b ∷ z) h
+  joined_split text = join_with_byte-slice_split at text
 
 -- a byte that all pieces lack and that does not join them
 lacks_of : (at : ℕ) (a b : List ℕ) → lacks at a ≡ true → lacks at b ≡ true → lacks at (a ++ b) ≡ true

@@ -1,6 +1,5 @@
 -- What the proofs of this crate share.
 pub mod Split
-pub mod Columns
 pub mod FirstLine
 pub mod Digits
 pub mod Joining

@@ -1,14 +1,7 @@
 -- The digits that are written: how many they are, that they are read as the number again, and that a word without a capital letter is written as it stood.
-use mathlib.Core.Path.{◌≡◌, refl, sym, ap, ◌∙◌}
-use mathlib.Core.Logic.{⊎_elim}
-use mathlib.Core.Bool.{Bool, true, false, not, ◌&&◌, ◌||◌, cond, false≢true}
-use mathlib.Core.List.{List, [], ◌∷◌, ◌++◌, append-nil}
-use Prim.Native.Nat.{ℕ, zero, suc, ◌+◌, ◌-◌, ◌*◌, ◌/◌, ◌%◌, ◌^◌, ◌≤◌, ◌<◌}
-use native.Mathlib.Nat.{pow-suc, add-zero, zero-add, add-suc, suc-add}
-use native.Mathlib.Omega.{arith}
-use borrow.Author.Tests.{lt-ltb, le-ltb, le-leb, lt-leb, eqb-true}
-use lib.Dec.{eqb}
-use lib.ListN.{length, length-append}
+use Rattle.std.proofs.Common.{◌≡◌, refl, sym, ap, ◌∙◌, ⊎_elim, Bool, true, false, not, ◌&&◌, ◌||◌, cond, List, [], ◌∷◌, ◌++◌, append-nil, ℕ, zero, suc, ◌+◌, ◌-◌, ◌*◌, ◌/◌, ◌%◌, ◌^◌, ◌≤◌, ◌<◌, pow-suc, add-zero, zero-add, add-suc, suc-add, arith, lt-ltb, le-ltb, le-leb, eqb-true, eqb, length, length-append}
+use mathlib.Core.Bool.{false≢true}
+use borrow.Author.Tests.{lt-leb}
 use lib.Seq.{append_snoc}
 use Rattle.text.specs.Text.{lf, space, joined, line_of, text_of, between, is_digit, digit_of, each_digit, word_digits, is_word, followed_by, word_of, lower_digit, lower_digits, field_of, no_capital}
 use Rattle.lists.proofs.Cases.{both, le_or_lt, and_true, and_false}

@@ -1,5 +1,6 @@
 -- Document 01, "Score text", and document 02, "A tidy writer": lines, fields and words, over the bytes of a text, as they are read and written.
-use Rattle.std.specs.Prelude.{ℕ, zero, suc, ◌+◌, ◌-◌, ◌*◌, ◌/◌, ◌%◌, Bool, true, not, ◌&&◌, ◌||◌, cond, List, [], ◌∷◌, ◌++◌, length, leb, ltb, eqb}
+use Rattle.std.specs.Prelude.{ℕ, zero, suc, ◌+◌, ◌-◌, ◌*◌, ◌/◌, ◌%◌, Bool, true, not, ◌&&◌, ◌||◌, cond, List, [], ◌∷◌, ◌++◌, length, leb, ltb, eqb, Option, position}
+use Rattle.std.specs.List.{slice_split, join_with_byte}
 use Prim.Native.Char.{code}
 use Prim.Native.String.{String, [] as end, ◌∷◌ as ◌then◌}
 use Rattle.lists.specs.Lists.{same}
@@ -19,21 +20,13 @@ lf = 10
 abbrev pub space : ℕ
 space = code " "
 
--- One byte more at the front of the first piece.
-abbrev pub on_first : ℕ → List (List ℕ) → List (List ℕ)
-on_first b [] = (b ∷ []) ∷ []
-on_first b (p ∷ ps) = (b ∷ p) ∷ ps
-
 -- The pieces into which each byte `at` cuts a text: one more than there are such bytes, and any of them may be empty.
 unfoldable pub split : ℕ → List ℕ → List (List ℕ)
-split at [] = [] ∷ []
-split at (b ∷ bs) = cond (eqb b at) ([] ∷ split at bs) (on_first b (split at bs))
+split at text = slice_split (λ b. eqb b at) text
 
 -- Pieces with the byte `at` between them, as `split` cuts them apart.
 unfoldable pub joined : ℕ → List (List ℕ) → List ℕ
-joined at [] = []
-joined at (p ∷ []) = p
-joined at (p ∷ q ∷ ps) = p ++ at ∷ joined at (q ∷ ps)
+joined at pieces = join_with_byte at pieces
 
 -- The fields of a line.
 abbrev pub fields_of : List ℕ → List (List ℕ)
@@ -80,10 +73,9 @@ text_of (fields ∷ lines) = line_of fields ++ text_of lines
 
 -- ---- names
 
--- The column of a name: the number of the first field that is the name, and the number of fields if none is.
-unfoldable pub column_of : List ℕ → List (List ℕ) → ℕ
-column_of name [] = 0
-column_of name (field ∷ fields) = cond (same name field) 0 (suc (column_of name fields))
+-- The column of a name: the number of the first field that is the name, if one is.
+unfoldable pub column_of : List ℕ → List (List ℕ) → Option ℕ
+column_of name fields = position (same name) fields
 
 -- ---- words
 

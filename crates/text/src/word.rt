@@ -9,7 +9,7 @@ pub const WORD_DIGITS: usize = 8;
 fn is_digit(b: u8) -> bool
     ensures { result ≡ is_digit b }
 {
-    ((b >= b'0') & (b <= b'9')) | (((b >= b'A') & (b <= b'F')) | ((b >= b'a') & (b <= b'f')))
+    b.is_ascii_hexdigit()
 }
 
 // A digit's value: a letter's low four bits start at 1, and only letters are 64 or more.
@@ -48,7 +48,7 @@ fn half_word(text: &[u8], at: usize) -> u32
         + digit(text[at + 3])
 }
 
-// The word that stands at `at`.
+// The word that stands at `at`. `u32::from_str_radix` is no plainer: it takes a text of any length and a sign, and may fail.
 pub fn word_at(text: &[u8], at: usize) -> u32
     requires { is_word (take word_digits (drop at text.now)) ≡ true }
     ensures { result ≡ word_of (take word_digits (drop at text.now)) }
@@ -79,7 +79,7 @@ fn put_half(half: u32, text: &mut [u8])
     text[3] = lower_digit(half % 16);
 }
 
-// A word, in the place of eight bytes.
+// A word, in the place of eight bytes. Formatting as `{:08x}` is no plainer: it may fail, and writes to a buffer with a position.
 pub fn put_word(word: u32, text: &mut [u8])
     requires { length text.old ≡ word_digits }
     ensures { text.new ≡ field_of word }

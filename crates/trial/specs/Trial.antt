@@ -1,5 +1,5 @@
 -- What the test programs fill banks and maps with, and the number that tells one run from another.
-use Rattle.std.specs.Prelude.{ℕ, zero, suc, ◌+◌, ◌-◌, ◌*◌, ◌/◌, ◌%◌, cond, List, [], ◌∷◌, ltb, ℤ, pos, negsuc}
+use Rattle.std.specs.Prelude.{ℕ, zero, suc, ◌+◌, ◌*◌, ◌/◌, ◌%◌, List, [], ◌∷◌, ℤ, pos, ◌-ℤ◌, fold}
 
 -- The series: s = 1664525 s + 1013904223 mod 2^32.
 abbrev pub next_of : ℕ → ℕ
@@ -19,15 +19,11 @@ abbrev pub high_byte : ℕ → ℕ
 high_byte s = s / 16777216
 
 abbrev pub sample_of : ℕ → ℤ
-sample_of s = cond (ltb (s / 65536) 32768) (negsuc (32767 - s / 65536)) (pos (s / 65536 - 32768))
+sample_of s = pos (s / 65536) -ℤ pos 32768
 
 -- The check number of a run, word by word: h = 65599 h + word mod 4294967291.
-abbrev pub modulus : ℕ
-modulus = 4294967291
-
 abbrev pub mixed_of : ℕ → ℕ → ℕ
-mixed_of h w = (65599 * h + w) % modulus
+mixed_of h w = (65599 * h + w) % 4294967291
 
-unfoldable pub sum_of : ℕ → List ℕ → ℕ
-sum_of h [] = h
-sum_of h (w ∷ l) = sum_of (mixed_of h w) l
+abbrev pub sum_of : List ℕ → ℕ
+sum_of words = fold mixed_of 0 words

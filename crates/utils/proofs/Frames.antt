@@ -1,13 +1,5 @@
 -- Laws of blocks of frames, for any step of any states: the last frame first, a frame by its number, and a part of the state that goes its own way.
-use mathlib.Core.Path.{◌≡◌, refl, sym, ap, ◌∙◌}
-use mathlib.Core.List.{List, [], ◌∷◌, ◌++◌}
-use Prim.Native.Nat.{ℕ, zero, suc, ◌+◌, ◌*◌, ◌<◌, zero-le}
-use native.Mathlib.Nat.{le_of_suc-le-suc, not-suc-le-zero}
-use native.Mathlib.Numerals.{add-one}
-use native.Mathlib.Omega.{arith}
-use lib.ListN.{length, get_or, set, length-set}
-use lib.Seq.{get_or-set_same, get_or-set_other, ext_get_or}
-use borrow.Author.Count.{below_more}
+use Rattle.std.proofs.Common.{◌≡◌, refl, sym, ap, ◌∙◌, List, [], ◌∷◌, ◌++◌, ℕ, zero, suc, ◌+◌, ◌*◌, ◌<◌, zero-le, le_of_suc-le-suc, not-suc-le-zero, add-one, arith, length, get_or, set, length-set, get_or-set_same, get_or-set_other, ext_get_or, below_more}
 use Rattle.utils.specs.Holds.{none, plus, total, AtMost}
 use Rattle.utils.specs.Frames.{state_after, each_of, sum_of, Filled}
 use Rattle.utils.specs.declared.holds.Holds.{Holds}

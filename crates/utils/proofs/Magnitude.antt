@@ -1,12 +1,8 @@
 -- The magnitude of a word's float is the float of the word without its sign's bit, since both are read off the same fields.
-use mathlib.Core.Path.{◌≡◌, refl, ◌∙◌}
-use mathlib.Core.Bool.{Bool, true, false, cond}
-use Prim.Native.Nat.{ℕ, zero, suc, ◌+◌, ◌/◌, ◌%◌}
-use native.Mathlib.Nat.{mod-lt, mod-eq_of_lt}
+use Rattle.std.proofs.Common.{◌≡◌, refl, ◌∙◌, Bool, true, false, cond, ℕ, zero, suc, ◌+◌, ◌/◌, ◌%◌, mod-lt, mod-eq_of_lt, leb, eqb, lit<}
 use borrow.Author.Tests.{lt-leb}
-use lib.Dec.{leb, eqb, lit<}
-use lib.Pow.{mod-mod-pow}
-use lib.Ieee.{nan, inf, binary32, odd, of_fields, of_bits}
+use Rattle.std.proofs.Math.Pow.{mod-mod-pow}
+use Rattle.std.specs.Float.Ieee.{nan, inf, binary32, odd, of_fields, of_bits}
 use Rattle.utils.specs.Utils.{abs_of}
 
 abs_odd : (d : ℕ) (s : Bool) (q k l : ℕ) → abs_of (odd d s q k l) ≡ odd d false q k l

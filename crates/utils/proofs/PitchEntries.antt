@@ -1,19 +1,12 @@
 -- No note leads past the pitch tables: for every float whatsoever both entries that `note_to_frequency` reads are among the 256.
 -- A clamped note plus 128 is NaN, or a rounded number from 0 to 255; what its whole part leaves is exact and below 1, and so is 256 times that, below 256.
-use mathlib.Core.Path.{◌≡◌, refl, sym, ap, subst, ◌∙◌}
-use mathlib.Core.Logic.{◌⊎◌, inl, inr}
-use mathlib.Core.Bool.{Bool, true, false, cond, ◌&&◌, true≢false}
-use mathlib.Core.List.{List}
-use Prim.Native.Nat.{ℕ, zero, suc, ◌+◌, ◌-◌, ◌*◌, ◌/◌, ◌%◌, ◌^◌, ◌≤◌, ◌<◌, zero-le, compare}
-use native.Mathlib.Nat.{zero-lt-suc, le_trans, le_of_eq, lt_of_lt_of_le, lt_of_le_of_lt, lt_of_not-le, not-le_of_lt, le_of_suc-le-suc, min-le_left, min-eq_left}
-use native.Mathlib.Nat.{mul_assoc, mul_comm, mul-one, zero-mul, mod-le, mod-lt, mod-one, zero-mod, div-lt_iff_lt-mul, mul-lt-mul_of_pos_right, lt_of_mul-lt-mul_right}
-use native.Mathlib.Omega.{arith}
-use borrow.Author.Tests.{ltb-false}
-use lib.Dec.{T, ltb, eqb, leb, leb→le, ltb→lt, lt→ltb, lit<, lit≤}
-use lib.IntN.{ℤ, pos, negsuc}
-use lib.ListN.{get_or}
-use lib.Pow.{pow-add, pow_pos, pow-lt}
-use lib.Ieee.{Float, nan, inf, fin, binary32, up, down, neg, lt, le, size, nearest, odd, units, round, sum, add, sub, mul, fits, to_unsigned}
+use Rattle.std.proofs.Common.{◌≡◌, sym, ap, subst, ◌∙◌, ◌⊎◌, inl, inr, Bool, true, false, cond, ◌&&◌, true≢false, List, ℕ, zero, suc, ◌+◌, ◌-◌, ◌*◌, ◌/◌, ◌%◌, ◌^◌, ◌≤◌, ◌<◌, zero-le, zero-lt-suc, le_trans, le_of_eq, lt_of_lt_of_le, lt_of_le_of_lt, lt_of_not-le, not-le_of_lt, le_of_suc-le-suc, mul_assoc, mul_comm, mul-one, zero-mul, mod-lt, div-lt_iff_lt-mul, mul-lt-mul_of_pos_right, lt_of_mul-lt-mul_right, arith, ltb-false, T, ltb, eqb, leb, leb→le, ltb→lt, lt→ltb, lit≤, ℤ, pos, negsuc, get_or, pow-add, pow_pos, Float}
+use Rattle.std.proofs.Math.Path.{refl}
+use Prim.Native.Nat.{compare}
+use Rattle.std.proofs.Math.Nat.{min-le_left, min-eq_left, mod-le, mod-one, zero-mod}
+use Rattle.std.proofs.Math.Dec.{lit<}
+use Rattle.std.proofs.Math.Pow.{pow-lt}
+use Rattle.std.specs.Float.Ieee.{nan, inf, fin, binary32, up, down, neg, lt, le, size, nearest, odd, units, round, sum, add, sub, mul, fits, to_unsigned}
 use lib.Ieee.Digits.{back}
 use lib.Ieee.Exact.{HasValue, round_exact}
 use lib.Ieee.Fits.{down_pos, round-fits, and_l, and_r}

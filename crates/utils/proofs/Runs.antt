@@ -1,11 +1,5 @@
 -- A lent run that a loop fills keeps its length and what stands past the filled part; what it begins with is what the loop's frames give, since both are read alike at each entry.
-use mathlib.Core.Path.{◌≡◌, refl, sym, ap, ◌∙◌}
-use mathlib.Core.List.{List, ◌++◌}
-use Prim.Native.Nat.{ℕ, ◌+◌, ◌<◌}
-use native.Mathlib.Nat.{add-zero}
-use native.Mathlib.Omega.{arith}
-use lib.ListN.{length, get_or, set, take, drop, length-set, take-append-drop}
-use lib.Seq.{length-take-le, get_or-take, get_or-drop, ext_get_or, drop-set-lt, drop-drop, take_at}
+use Rattle.std.proofs.Common.{◌≡◌, refl, sym, ap, ◌∙◌, List, ◌++◌, ℕ, ◌+◌, ◌<◌, add-zero, arith, length, get_or, set, take, drop, length-set, take-append-drop, length-take-le, get_or-take, get_or-drop, ext_get_or, drop-set-lt, drop-drop, take_at}
 use Rattle.utils.specs.Frames.{state_after, each_of, Filled}
 use Rattle.utils.proofs.Frames.{filled_none, filled_more, each_length, each_at}
 

@@ -1,8 +1,5 @@
 -- What the five counts have to do with `held` goes over from one frame or reading to sums of them.
-use mathlib.Core.Path.{◌≡◌}
-use mathlib.Core.Bool.{Bool, true, false, cond}
-use Prim.Native.Nat.{ℕ, zero, suc, ◌+◌, ◌≤◌}
-use native.Mathlib.Omega.{arith}
+use Rattle.std.proofs.Common.{◌≡◌, Bool, true, false, cond, ℕ, zero, suc, ◌+◌, ◌≤◌, arith}
 use Rattle.utils.specs.Holds.{none, of_frame, of_map, of_bank, plus, total, OfFrames, OfReadings}
 use Rattle.utils.specs.Frames.{each_of, sum_of}
 use Rattle.utils.specs.declared.holds.Holds.{Holds}

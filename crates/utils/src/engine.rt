@@ -1,7 +1,11 @@
 // What the engines share: the source's `engine/mod.rs`.
 // Based on MIT-licensed code (c) 2016 by Emilie Gillet (emilie.o.gillet@gmail.com)
 ghost use Rattle.std.specs.Prelude.{◌≡◌};
+ghost use Rattle.utils.specs.Rendered.{workspace};
 ghost use Rattle.utils.specs.Units.{a0_of, note_to_frequency};
+
+use crate::holds::Holds;
+use crate::units::PitchRatios;
 
 // The most frames of a block.
 pub const MOST_FRAMES: usize = 128;
@@ -10,6 +14,41 @@ pub const MOST_FRAMES: usize = 128;
 pub const RUN_LENGTH: usize = 2 * MOST_FRAMES;
 
 pub const CORNERS_LENGTH: usize = 8 * MOST_FRAMES;
+
+// The arrays that a voice works in for a block: a key for each frame, four runs and the corners.
+#[derive(Drop)]
+pub struct Workspace {
+    pub keys: [u32; MOST_FRAMES],
+    pub run_1: [f32; RUN_LENGTH],
+    pub run_2: [f32; RUN_LENGTH],
+    pub run_3: [f32; RUN_LENGTH],
+    pub run_4: [f32; RUN_LENGTH],
+    pub corners: [f32; CORNERS_LENGTH],
+}
+
+impl Workspace {
+    // All of it zeros, to be made once by whoever lends it.
+    #[tactic(auto, unfolding(words::specs::Binary32::of_bits, words::specs::Binary32::decimal))]
+    pub fn new() -> Workspace
+        ensures { result ≡ workspace }
+    {
+        Workspace {
+            keys: [0; MOST_FRAMES],
+            run_1: [0.0; RUN_LENGTH],
+            run_2: [0.0; RUN_LENGTH],
+            run_3: [0.0; RUN_LENGTH],
+            run_4: [0.0; RUN_LENGTH],
+            corners: [0.0; CORNERS_LENGTH],
+        }
+    }
+}
+
+// The state of a voice after a block, and what was held.
+#[derive(Clone, Copy)]
+pub struct Block<S> {
+    pub state: S,
+    pub holds: Holds,
+}
 
 // The parameters of a block.
 #[derive(Clone, Copy)]
@@ -27,22 +66,19 @@ pub struct EngineParameters {
 }
 
 // The normalized frequency of A0 at a rate in Hz.
+#[tactic(auto, unfolding(words::specs::Binary32::of_bits, words::specs::Binary32::decimal))]
 pub fn a0(rate: u32) -> f32
     ensures { result ≡ a0_of rate }
 {
     55.0 / words::float_of_u64(rate as u64)
 }
 
-// The frequency of a note, in cycles a frame. The tables are those of `units`, lent.
-pub fn note_to_frequency(
-    high: &[f32; 256],
-    low: &[f32; 256],
-    midi_note: f32,
-    a0_normalized: f32,
-) -> f32
-    ensures { result ≡ note_to_frequency high.now low.now midi_note a0_normalized }
+// The frequency of a note, in cycles a frame.
+#[tactic(auto, unfolding(crate::specs::Units::note_to_frequency, words::specs::Binary32::of_bits, words::specs::Binary32::decimal))]
+pub fn note_to_frequency(ratios: &PitchRatios, midi_note: f32, a0_normalized: f32) -> f32
+    ensures { result ≡ note_to_frequency ratios.now.high ratios.now.low midi_note a0_normalized }
 {
     let note = crate::clamp(midi_note - 9.0, -128.0, 127.0);
 
-    a0_normalized * 0.25 * crate::units::semitones_to_ratio(high, low, note)
+    a0_normalized * 0.25 * crate::units::semitones_to_ratio(ratios, note)
 }

@@ -10,7 +10,7 @@ pub mod parameter_interpolator;
 pub mod rsqrt;
 pub mod units;
 
-// x between low and high. NaN and -0 pass through.
+// x between low and high. NaN and -0 pass through. Not `f32::clamp`, which asks its caller that low is not above high.
 pub fn clamp(x: f32, low: f32, high: f32) -> f32
     ensures { result ≡ clamp_of x low high }
 {
@@ -23,11 +23,11 @@ pub fn clamp(x: f32, low: f32, high: f32) -> f32
     }
 }
 
-// The smaller of two floats, or the one that is no NaN.
+// The smaller of two floats, or the one that is no NaN. Not `f32::min`, whose contract leaves open which of 0 and -0 it answers.
 pub fn min(x: f32, y: f32) -> f32
     ensures { result ≡ min_of x y }
 {
-    if y != y {
+    if y.is_nan() {
         x
     } else if x < y {
         x
@@ -36,11 +36,11 @@ pub fn min(x: f32, y: f32) -> f32
     }
 }
 
-// The larger of two floats, or the one that is no NaN.
+// The larger of two floats, or the one that is no NaN. Not `f32::max`, which leaves the same open.
 pub fn max(x: f32, y: f32) -> f32
     ensures { result ≡ max_of x y }
 {
-    if y != y {
+    if y.is_nan() {
         x
     } else if x > y {
         x
@@ -49,14 +49,14 @@ pub fn max(x: f32, y: f32) -> f32
     }
 }
 
-// The magnitude: the sign bit cleared.
+// The magnitude: the sign bit cleared. Not `f32::abs`, which tests for below 0 and for 0 where this is one instruction.
 pub fn abs(x: f32) -> f32
     ensures { result ≡ abs_of x }
 {
-    if x != x {
+    if x.is_nan() {
         x
     } else {
-        f32::from_bits(f32::to_bits(x) % 0x80000000)
+        f32::from_bits(x.to_bits() % 0x80000000)
     }
 }
 
@@ -68,6 +68,7 @@ pub fn one_pole(out: f32, in_: f32, coefficient: f32) -> f32
 }
 
 // A table of one period and more, read at a phase, with linear interpolation.
+#[tactic(auto, using(words::proofs::Parts::part_most))]
 pub fn interpolate_wrap(table: &[f32], index: f32, size: f32) -> f32
     requires { 2 ≤ length table.now }
     ensures { result ≡ interpolate_wrap table.now index size }

@@ -8,32 +8,41 @@ ghost use Rattle.utils.specs.Units.{semitones_to_ratio, lut_pitch_ratio_high, lu
 fn entry(table: &[f32], i: usize) -> f32
     ensures { result ≡ get_or table.now i nan }
 {
-    if i < table.len() { table[i] } else { 0.0 / 0.0 }
+    table.get(i).copied().unwrap_or(f32::NAN)
 }
 
-// The frequency ratio of a number of semitones. The tables are LUT_PITCH_RATIO_HIGH and LUT_PITCH_RATIO_LOW, lent.
-pub fn semitones_to_ratio(high: &[f32; 256], low: &[f32; 256], semitones: f32) -> f32
-    ensures { result ≡ semitones_to_ratio high.now low.now semitones }
+// A table of frequency ratios for whole semitones, and one for 256ths of a semitone.
+#[derive(Clone, Copy)]
+pub struct PitchRatios {
+    pub high: [f32; 256],
+    pub low: [f32; 256],
+}
+
+// The two tables LUT_PITCH_RATIO_HIGH and LUT_PITCH_RATIO_LOW, to be lent.
+static PITCH_RATIOS: PitchRatios = PitchRatios {
+    high: LUT_PITCH_RATIO_HIGH,
+    low: LUT_PITCH_RATIO_LOW,
+};
+
+// The two tables of the source.
+pub fn pitch_ratios() -> &'static PitchRatios
+    ensures high { result.now.high ≡ lut_pitch_ratio_high }
+    ensures low { result.now.low ≡ lut_pitch_ratio_low }
+{
+    &PITCH_RATIOS
+}
+
+// The frequency ratio of a number of semitones.
+#[tactic(auto, unfolding(crate::specs::Units::semitones_to_ratio, words::specs::Binary32::of_bits, words::specs::Binary32::decimal))]
+pub fn semitones_to_ratio(ratios: &PitchRatios, semitones: f32) -> f32
+    ensures { result ≡ semitones_to_ratio ratios.now.high ratios.now.low semitones }
 {
     let pitch = semitones + 128.0;
     let pitch_integral = words::whole(pitch);
     let pitch_fractional = pitch - words::float_of_u64(pitch_integral);
 
-    entry(high, pitch_integral as usize)
-        * entry(low, words::whole(pitch_fractional * 256.0) as usize)
-}
-
-// The two tables, to be made once by whoever lends them.
-pub fn pitch_ratio_high() -> [f32; 256]
-    ensures { result ≡ lut_pitch_ratio_high }
-{
-    LUT_PITCH_RATIO_HIGH
-}
-
-pub fn pitch_ratio_low() -> [f32; 256]
-    ensures { result ≡ lut_pitch_ratio_low }
-{
-    LUT_PITCH_RATIO_LOW
+    entry(&ratios.high, pitch_integral as usize)
+        * entry(&ratios.low, words::whole(pitch_fractional * 256.0) as usize)
 }
 
 const LUT_PITCH_RATIO_HIGH: [f32; 256] = [

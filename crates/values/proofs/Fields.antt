@@ -1,16 +1,8 @@
 -- A line of words, word by word: after a word and a space come the words that are left, and after a word and an LF the lines that are left.
-use mathlib.Core.Path.{◌≡◌, refl, sym, ap, ◌∙◌}
-use mathlib.Core.Logic.{⊎_elim}
-use mathlib.Core.Bool.{Bool, true, false, ◌&&◌, true≢false}
-use mathlib.Core.List.{List, [], ◌∷◌, ◌++◌, append-nil}
-use Prim.Native.Nat.{ℕ, zero, suc, ◌+◌, ◌*◌, ◌≤◌, ◌<◌}
-use native.Mathlib.Nat.{eq-or-lt_of_le}
-use native.Mathlib.Omega.{arith}
-use borrow.Author.Tests.{ltb-true, eqb-true, ne_eqb, eq-eqb, lt-ltb}
-use lib.Dec.{ltb, eqb, eqb-suc-suc, eqb-suc-zero, eqb-zero-suc}
-use lib.ListN.{length, get_or, take, drop, take-append-drop, length-drop}
-use lib.Seq.{drop-cons, take-take, get_or-take, length-take-le, drop-drop}
-use Rattle.text.specs.Text.{lf, space, on_first, split, Line, ended, unended, contents, lined, lines_of, first_of, rest_of, fields_of, is_digit, each_digit, word_digits, is_word, each_word}
+use Rattle.std.proofs.Common.{◌≡◌, refl, sym, ap, ◌∙◌, ⊎_elim, Bool, true, false, ◌&&◌, true≢false, List, [], ◌∷◌, ◌++◌, append-nil, ℕ, zero, suc, ◌+◌, ◌*◌, ◌≤◌, ◌<◌, eq-or-lt_of_le, arith, ltb-true, eqb-true, ne_eqb, eq-eqb, lt-ltb, ltb, eqb, length, get_or, take, drop, take-append-drop, length-drop, drop-cons, take-take, get_or-take, length-take-le, drop-drop}
+use lib.Dec.{eqb-suc-suc, eqb-suc-zero, eqb-zero-suc}
+use Rattle.text.specs.Text.{lf, space, split, Line, ended, unended, contents, lined, lines_of, first_of, rest_of, fields_of, is_digit, each_digit, word_digits, is_word, each_word}
+use Rattle.std.specs.List.{onto_first}
 use Rattle.values.specs.Lines.{holds_words}
 use Rattle.values.specs.Inner.{field_bytes, starts_word}
 use Rattle.lists.proofs.Cases.{le_or_lt, both, and_true, and_false}
@@ -22,14 +14,14 @@ abbrev put_on_line : List ℕ → Line → Line
 put_on_line w (ended bs) = ended (w ++ bs)
 put_on_line w (unended bs) = unended (w ++ bs)
 
-first_of_pieces : (b : ℕ) (ps : List (List ℕ)) → first_of (lined (on_first b ps)) ≡ put_on_line (b ∷ []) (first_of (lined ps))
+first_of_pieces : (b : ℕ) (ps : List (List ℕ)) → first_of (lined (onto_first b ps)) ≡ put_on_line (b ∷ []) (first_of (lined ps))
 first_of_pieces b [] = refl
 first_of_pieces b ([] ∷ []) = refl
 first_of_pieces b ((x ∷ q) ∷ []) = refl
 first_of_pieces b ([] ∷ r ∷ qs) = refl
 first_of_pieces b ((x ∷ q) ∷ r ∷ qs) = refl
 
-rest_of_pieces : (b : ℕ) (ps : List (List ℕ)) → rest_of (lined (on_first b ps)) ≡ rest_of (lined ps)
+rest_of_pieces : (b : ℕ) (ps : List (List ℕ)) → rest_of (lined (onto_first b ps)) ≡ rest_of (lined ps)
 rest_of_pieces b [] = refl
 rest_of_pieces b ([] ∷ []) = refl
 rest_of_pieces b ((x ∷ q) ∷ []) = refl
@@ -72,14 +64,14 @@ module _ (text : List ℕ) where
   field_after [] e = refl
   field_after (b ∷ w) e =
       let p = both (is_digit b) (each_digit w) e in
-      rw (other space refl b p.0) (ap (on_first b) (field_after w p.1))
+      rw (other space refl b p.0) (ap (onto_first b) (field_after w p.1))
 
 field_alone : (w : List ℕ) → each_digit w ≡ true → fields_of w ≡ w ∷ []
 unfolding split each_digit is_digit
 field_alone [] e = refl
 field_alone (b ∷ w) e =
     let p = both (is_digit b) (each_digit w) e in
-    rw (other space refl b p.0) (ap (on_first b) (field_alone w p.1))
+    rw (other space refl b p.0) (ap (onto_first b) (field_alone w p.1))
 
 -- ---- a text that starts with a word
 module _ (follows : ℕ) (text : List ℕ) (e : starts_word follows text ≡ true) where

@@ -1,10 +1,8 @@
 -- What the functions over a line of values promise each other, in the terms of `Lines`.
-use Rattle.std.specs.Prelude.{ℕ, suc, ◌≤◌, ◌<◌, ◌≡◌, Bool, true, ◌&&◌, List, length, get_or, take, drop, ltb, eqb}
+use Rattle.std.proofs.Common.{ℕ, suc, ◌<◌, ◌≡◌, Bool, true, ◌&&◌, List, length, get_or, take, drop, ltb, eqb}
 use Rattle.text.specs.Text.{word_digits, is_word, Line, lines_of, first_of}
 use Rattle.names.specs.declared.Source.{Source}
-use Rattle.names.specs.declared.Shape.{Shape}
 use Rattle.names.specs.Sources.{each_readable}
-use Rattle.names.specs.Inner.{most_names, row_sources}
 use Rattle.values.specs.Lines.{holds_words}
 
 -- How many bytes a word and the byte after it are.
@@ -18,14 +16,6 @@ starts_word after text = ltb word_digits (length text) && (is_word (take word_di
 -- The line that starts at a place.
 abbrev pub line_at : List ℕ → ℕ → Line
 line_at text from = first_of (lines_of (drop from text))
-
--- The first `width` places are those of a row's sources, and lines of `names` words have them.
-pub record Sourced (shape : Shape) (places : List ℕ) : Type 0 where
-  pub some_names : 0 < shape.names
-  pub some_words : 0 < shape.width
-  pub most_words : shape.width ≤ most_names
-  pub enough : shape.width ≤ length places
-  pub readable : each_readable shape.names (row_sources shape places) ≡ true
 
 -- A line has each of some sources.
 pub record OnLine (sources : List Source) (line : Line) : Type 0 where

@@ -1,6 +1,7 @@
--- Document 01, "Score text": lines of values, and rows by them; "Calls and their numbers": the number that refuses a line.
-use Rattle.std.specs.Prelude.{ℕ, Bool, false, not, ◌&&◌, ◌||◌, cond, List, [], ◌∷◌, ◌++◌, map, length, get_or, eqb}
-use Rattle.score.specs.Numbers.{limit_number, value_number}
+-- Document 01, "Score text": lines of values, and rows by them; "Calls and their numbers": what refuses a line.
+use Rattle.std.proofs.Common.{ℕ, Bool, false, not, ◌&&◌, ◌||◌, cond, List, [], ◌∷◌, ◌++◌, map, length, get_or, eqb, Err}
+use Rattle.score.specs.declared.refusal.Refusal.TheVariants.{Limit, Value}
+use Rattle.score.specs.Numbers.{Tested, accepted}
 use Rattle.score.specs.Limits.{row_within}
 use Rattle.text.specs.Text.{Line, ended, unended, contents, fields_of, word_of, each_word}
 use Rattle.names.specs.declared.Source.{Source}
@@ -26,7 +27,7 @@ unfoldable pub rows_of : List Source → List Line → List ℕ
 rows_of sources [] = []
 rows_of sources (line ∷ lines) = row_of sources line ++ rows_of sources lines
 
--- "11 before 9": the number that refuses a line of values, 0 if none does, where the first line has n names. 9 is tested in a score alone.
-unfoldable pub line_number : ℕ → List Source → Bool → Line → ℕ
-line_number n sources score line =
-    cond (holds_words n line) (cond (not score || row_within (row_of sources line)) 0 limit_number) value_number
+-- "11 before 9": the test of line `at` of the lines of values, where the first line has n names. 9 is tested in a score alone.
+unfoldable pub test_line : ℕ → List Source → Bool → ℕ → Line → Tested
+test_line n sources score at line =
+    cond (holds_words n line) (cond (not score || row_within (row_of sources line)) accepted (Err (Limit at))) (Err (Value at))

@@ -1,16 +1,16 @@
 // Lines of values: words with one space between, and an LF.
 #![tactic(auto)]
 
-ghost use Rattle.std.specs.Prelude.{◌≡◌, true, [], ◌∷◌, ◌≤◌, ◌<◌, length, take, drop};
+ghost use Rattle.std.specs.Prelude.{◌≡◌, true, [], ◌∷◌, ◌≤◌, ◌<◌, length, drop};
 ghost use Rattle.score.specs.Rows.{row_words};
 ghost use Rattle.score.specs.Limits.{row_within};
-ghost use Rattle.names.specs.Inner.{most_names, source_at, sources_at, row_sources};
-ghost use Rattle.values.specs.Lines.{holds_words, word_from, row_of, line_number};
-ghost use Rattle.values.specs.Inner.{starts_word, line_at, Sourced, OnLine};
+ghost use Rattle.values.specs.Lines.{holds_words, word_from, row_of, test_line};
+ghost use Rattle.values.specs.Inner.{starts_word, line_at, OnLine};
 
-use names::{MOST_NAMES, Shape};
+use names::Source;
+use names::layout::Layout;
 use score::limits::row_within;
-use score::refusal::{LIMIT, VALUE};
+use score::refusal::Refusal;
 use score::rows::ROW_WORDS;
 use text::pieces::{LF, SPACE};
 use text::word::{WORD_DIGITS, is_word, word_at};
@@ -35,80 +35,66 @@ fn holds_words(text: &[u8], from: usize, count: usize) -> bool
     ensures { result ≡ holds_words count (line_at text.now from) }
 {
     let mut at = from;
-    let mut left = count;
-    while left > 1 {
+    for k in 1..count {
         if !word_then(text, at, SPACE) {
             return false;
         }
         at += FIELD;
-        left -= 1;
     }
     word_then(text, at, LF)
 }
 
-// The word of the source at a place, on the line that starts at `from`, where the first line has `names` names.
-fn word_from(text: &[u8], from: usize, place: usize, names: usize) -> u32
-    requires { OnLine (source_at names place ∷ []) (line_at text.now from) }
-    ensures { result ≡ word_from (line_at text.now from) (source_at names place) }
+// The word of a source, on the line that starts at `from`.
+fn word_from(text: &[u8], from: usize, source: Source) -> u32
+    requires { OnLine (source ∷ []) (line_at text.now from) }
+    ensures { result ≡ word_from (line_at text.now from) source }
 {
-    if place < names {
-        word_at(text, from + place * FIELD)
-    } else {
-        ((place - names) % 0x100000000) as u32
+    match source {
+        Source::Column(column) => word_at(text, from + column * FIELD),
+        Source::Word(word) => word,
+        Source::Missing => unreachable!(),
     }
 }
 
-// The row of the line that starts at `from`, by the places of its words' sources.
-pub fn write_row(
-    text: &[u8],
-    from: usize,
-    places: &[usize; MOST_NAMES],
-    names: usize,
-    row: &mut [u32],
-)
-    requires on_line { OnLine (sources_at names (take (length row.old) places.now)) (line_at text.now from) }
-    requires row_len_bound { (length row.old ≤ most_names) × (length row.old ≤ length places.now) }
-    ensures { row.new ≡ row_of (sources_at names (take (length row.old) places.now)) (line_at text.now from) }
+// The row of the line that starts at `from`, by the sources of its words.
+pub fn write_row(text: &[u8], from: usize, sources: &[Source], row: &mut [u32])
+    requires on_line { OnLine sources.now (line_at text.now from) }
+    requires row_len { length row.old ≡ length sources.now }
+    ensures { row.new ≡ row_of sources.now (line_at text.now from) }
 {
-    let mut k = 0;
-    while k < row.len() {
-        row[k] = word_from(text, from, places[k], names);
-        k += 1;
+    for k in 0..row.len() {
+        row[k] = word_from(text, from, sources[k]);
     }
 }
 
 // The row of the line that starts at `from` is within the limits.
-fn line_within(text: &[u8], from: usize, places: &[usize; MOST_NAMES], names: usize) -> bool
-    requires on_line { OnLine (sources_at names (take row_words places.now)) (line_at text.now from) }
-    requires row_words_in_bounds { row_words ≤ length places.now }
-    ensures { result ≡ row_within (row_of (sources_at names (take row_words places.now)) (line_at text.now from)) }
+fn line_within(text: &[u8], from: usize, sources: &[Source]) -> bool
+    requires on_line { OnLine sources.now (line_at text.now from) }
+    requires row_len { length sources.now ≡ row_words }
+    ensures { result ≡ row_within (row_of sources.now (line_at text.now from)) }
 {
     let mut row = [0u32; ROW_WORDS];
-    write_row(text, from, places, names, &mut row);
+    write_row(text, from, sources, &mut row);
     row_within(row)
 }
 
-// The number that refuses the line that starts at `from`, 0 if none does.
-pub fn line_number(
+// Tests the line that starts at `from`, line `at` of the lines of values: that of a score by its limits too.
+pub fn test_line(
     text: &[u8],
     from: usize,
-    places: &[usize; MOST_NAMES],
-    shape: Shape,
+    layout: Layout<'_>,
     score: bool,
-) -> u32
+    at: usize,
+) -> Result<(), Refusal>
     requires from_in_bounds { from ≤ length text.now }
-    requires sourced { Sourced shape places.now }
-    requires width_value { score ≡ true → shape.width ≡ row_words }
-    ensures { result ≡ line_number shape.names (row_sources shape places.now) score (line_at text.now from) }
+    requires score_width { score ≡ true → length layout.sources.now ≡ row_words }
+    ensures { let l = layout.entry in result ≡ test_line l.names l.sources.now score at (line_at text.now from) }
 {
-    let names = shape.names;
-    if !holds_words(text, from, names) {
-        return VALUE;
+    if !holds_words(text, from, layout.names) {
+        return Err(Refusal::Value(at));
     }
-    if score {
-        if !line_within(text, from, places, names) {
-            return LIMIT;
-        }
+    if score && !line_within(text, from, layout.sources) {
+        return Err(Refusal::Limit(at));
     }
-    0
+    Ok(())
 }

@@ -1,11 +1,7 @@
 -- How long a block's words and a state's kept words are, for every voice; and the fresh state comes back from its words, since its floats are floats of words.
-use Prim.Native.Nat.{ℕ}
-use mathlib.Core.Path.{◌≡◌, refl}
-use mathlib.Core.List.{List}
-use mathlib.Core.Bool.{false}
-use lib.IntN.{ℤ}
-use lib.ListN.{length}
-use lib.Ieee.{binary32, of_bits, to_bits}
+use Rattle.std.proofs.Common.{ℕ, ◌≡◌, refl, List, false, ℤ, length, to_bits}
+use Rattle.std.specs.Float.{binary32}
+use Rattle.std.specs.Float.Ieee.{of_bits}
 use lib.Ieee.Fits.{div-fits, round-fits}
 use Rattle.words.specs.Binary32.{decimal}
 use Rattle.words.proofs.Words.{float_back}

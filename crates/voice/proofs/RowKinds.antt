@@ -1,9 +1,5 @@
 -- What a block holds has the kinds of its voice, whatever kept words or fresh state it begins with.
-use Prim.Native.Nat.{ℕ}
-use mathlib.Core.Bool.{Bool, true, false, cond}
-use mathlib.Core.List.{List}
-use lib.IntN.{ℤ}
-use lib.Ieee.{Float}
+use Rattle.std.proofs.Common.{ℕ, Bool, true, false, cond, List, ℤ, Float}
 use Rattle.utils.specs.declared.engine.EngineParameters.{EngineParameters}
 use Rattle.wavetable_engine.proofs.BlockKinds as wavetable
 use Rattle.wave_terrain_engine.proofs.BlockKinds as terrain

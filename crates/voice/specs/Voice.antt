@@ -1,5 +1,5 @@
 -- Document 01, "Rows, states, retakes", and document 02, N1: the state of a voice, its kept words, and the block of a row.
-use Rattle.std.specs.Prelude.{ℕ, ◌≡◌, cond, List, [], ◌∷◌, eqb, ℤ, get_or, Float}
+use Rattle.std.specs.Prelude.{ℕ, cond, List, [], ◌∷◌, eqb, ℤ, get_or, Float}
 use Rattle.std.specs.Float.{binary32}
 use Rattle.std.specs.Float.Ieee.{of_bits, to_bits}
 use Rattle.utils.specs.Units.{lut_pitch_ratio_high, lut_pitch_ratio_low}
@@ -17,12 +17,6 @@ use Rattle.voice.specs.declared.Voice.TheVariants as voice
 use Rattle.voice.specs.declared.State.{State}
 use Rattle.voice.specs.declared.State.TheVariants.{Wavetable, Terrain, Oscillator}
 pub use Rattle.terrain.specs.Layers.{Lent}
-
--- The three tables, as they are lent.
-pub record Tables (sine high low : List Float) : Type 0 where
-  pub sine_is : sine ≡ lut_sine
-  pub high_is : high ≡ lut_pitch_ratio_high
-  pub low_is : low ≡ lut_pitch_ratio_low
 
 -- "0 wavetable, 1 terrain, 2 terrain with map"; "Instrument 3 is `WavetableOscillator`".
 abbrev pub wavetable_instrument : ℕ

@@ -1,8 +1,8 @@
 // The state of a voice and its kept words, for every voice.
 #![tactic(auto)]
 
-ghost use Rattle.std.specs.Prelude.{◌≡◌, length};
-ghost use Rattle.voice.specs.Voice.{voice_of, kept_count, fresh_state, kept_words, wavetable_of, terrain_of, oscillator_of, state_of};
+ghost use Rattle.std.specs.Prelude.{◌≡◌};
+ghost use Rattle.voice.specs.Voice.{voice_of, fresh_state, kept_words, wavetable_of, terrain_of, oscillator_of, state_of};
 
 use oscillator::wavetable_oscillator::Differentiator;
 use sine_oscillator::FastSineOscillator;
@@ -10,7 +10,7 @@ use wave_terrain_engine::WaveTerrainEngine;
 use wavetable_engine::WavetableEngine;
 use wavetable_oscillator::WavetableOscillator;
 
-// The instruments.
+// The instruments. Each is a number, as the C interface hands it; `voice_of` makes the enum of it.
 pub const WAVETABLE: u32 = 0;
 
 pub const TERRAIN: u32 = 1;
@@ -19,7 +19,7 @@ pub const TERRAIN_WITH_MAP: u32 = 2;
 
 pub const OSCILLATOR: u32 = 3;
 
-// The words that are kept of a state.
+// The words that are kept of a state. They do not say which voice they are of, so a state is made by `state_of` and not From them.
 pub const KEPT_WORDS: usize = 13;
 
 #[derive(Clone, Copy)]
@@ -36,7 +36,7 @@ pub enum State {
     Oscillator(WavetableOscillator),
 }
 
-// Which voice an instrument plays. A number that is no instrument's is refused before a voice is asked for.
+// Which voice an instrument plays. A number that is no instrument's is refused before a voice is asked for, so this is no TryFrom: it never fails.
 #[tactic(auto, unfolding(crate::specs::Voice::voice_of))]
 pub fn voice_of(instrument: u32) -> Voice
     ensures { result ≡ voice_of instrument }
@@ -51,6 +51,7 @@ pub fn voice_of(instrument: u32) -> Voice
 }
 
 // The fresh state of a voice. `a0` is 55 divided by the rate.
+#[tactic(auto, unfolding(crate::specs::Voice::fresh_state))]
 pub fn fresh(voice: Voice, a0: f32) -> State
     ensures { result ≡ fresh_state voice a0 }
 {
@@ -62,6 +63,7 @@ pub fn fresh(voice: Voice, a0: f32) -> State
 }
 
 // The words of a wavetable state.
+#[tactic(auto, unfolding(crate::specs::Voice::kept_words))]
 fn wavetable_words(s: WavetableEngine) -> [u32; KEPT_WORDS]
     ensures { result ≡ kept_words (State.Wavetable s) }
 {
@@ -83,6 +85,7 @@ fn wavetable_words(s: WavetableEngine) -> [u32; KEPT_WORDS]
 }
 
 // The words of a terrain state.
+#[tactic(auto, unfolding(crate::specs::Voice::kept_words))]
 fn terrain_words(s: WaveTerrainEngine) -> [u32; KEPT_WORDS]
     ensures { result ≡ kept_words (State.Terrain s) }
 {
@@ -104,6 +107,7 @@ fn terrain_words(s: WaveTerrainEngine) -> [u32; KEPT_WORDS]
 }
 
 // The words of a plain oscillator's state.
+#[tactic(auto, unfolding(crate::specs::Voice::kept_words))]
 fn oscillator_words(s: WavetableOscillator) -> [u32; KEPT_WORDS]
     ensures { result ≡ kept_words (State.Oscillator s) }
 {
@@ -136,8 +140,8 @@ pub fn kept_words(s: State) -> [u32; KEPT_WORDS]
 }
 
 // The wavetable state by kept words.
-fn wavetable_of(kept: &[u32]) -> WavetableEngine
-    requires { length kept.now ≡ kept_count }
+#[tactic(auto, unfolding(crate::specs::Voice::wavetable_of))]
+fn wavetable_of(kept: &[u32; KEPT_WORDS]) -> WavetableEngine
     ensures { result ≡ wavetable_of kept.now }
 {
     WavetableEngine {
@@ -160,8 +164,8 @@ fn wavetable_of(kept: &[u32]) -> WavetableEngine
 }
 
 // The terrain state by kept words.
-fn terrain_of(kept: &[u32]) -> WaveTerrainEngine
-    requires { length kept.now ≡ kept_count }
+#[tactic(auto, unfolding(crate::specs::Voice::terrain_of))]
+fn terrain_of(kept: &[u32; KEPT_WORDS]) -> WaveTerrainEngine
     ensures { result ≡ terrain_of kept.now }
 {
     WaveTerrainEngine {
@@ -177,8 +181,8 @@ fn terrain_of(kept: &[u32]) -> WaveTerrainEngine
 }
 
 // The plain oscillator's state by kept words.
-fn oscillator_of(kept: &[u32]) -> WavetableOscillator
-    requires { length kept.now ≡ kept_count }
+#[tactic(auto, unfolding(crate::specs::Voice::oscillator_of))]
+fn oscillator_of(kept: &[u32; KEPT_WORDS]) -> WavetableOscillator
     ensures { result ≡ oscillator_of kept.now }
 {
     WavetableOscillator {
@@ -195,8 +199,8 @@ fn oscillator_of(kept: &[u32]) -> WavetableOscillator
 }
 
 // The state of a voice by kept words.
-pub fn state_of(voice: Voice, kept: &[u32]) -> State
-    requires { length kept.now ≡ kept_count }
+#[tactic(auto, unfolding(crate::specs::Voice::state_of))]
+pub fn state_of(voice: Voice, kept: &[u32; KEPT_WORDS]) -> State
     ensures { result ≡ state_of voice kept.now }
 {
     match voice {

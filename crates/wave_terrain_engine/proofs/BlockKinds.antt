@@ -1,8 +1,5 @@
 -- What a block holds has the kinds that readings have.
-use mathlib.Core.List.{List}
-use Prim.Native.Nat.{ℕ, ◌*◌}
-use lib.IntN.{ℤ}
-use lib.Ieee.{Float}
+use Rattle.std.proofs.Common.{List, ℕ, ◌*◌, ℤ, Float}
 use Rattle.words.specs.Binary32.{◌⊗◌}
 use Rattle.utils.specs.Units.{note_to_frequency}
 use Rattle.utils.specs.Holds.{plus, OfReadings}

@@ -1,13 +1,6 @@
 -- The short loops, one after the other, leave what the frame loop does: entry by entry they read what the frame with that entry reads.
-use mathlib.Core.Path.{◌≡◌, refl, sym, ap, ◌∙◌}
-use mathlib.Core.List.{List}
-use Prim.Native.Nat.{ℕ, zero, suc, ◌+◌, ◌*◌, ◌/◌, ◌≤◌, ◌<◌}
-use native.Mathlib.Nat.{add-zero}
-use native.Mathlib.Omega.{arith}
-use lib.IntN.{ℤ}
-use lib.ListN.{length, get_or, take}
-use lib.Seq.{ext_get_or}
-use lib.Ieee.{Float, nan, binary32, to_bits}
+use Rattle.std.proofs.Common.{◌≡◌, refl, sym, ap, ◌∙◌, List, ℕ, zero, suc, ◌+◌, ◌*◌, ◌/◌, ◌≤◌, ◌<◌, add-zero, arith, ℤ, length, get_or, take, ext_get_or, Float, to_bits}
+use Rattle.std.specs.Float.{nan, binary32}
 use Rattle.words.proofs.Parts.{held_most}
 use Rattle.utils.specs.Interpolator.{stepped}
 use Rattle.utils.specs.Holds.{plus, AtMost}
@@ -24,6 +17,7 @@ use Rattle.sine_oscillator.specs.Sine.{sine_of}
 use Rattle.sine_oscillator.specs.declared.FastSineOscillator.{FastSineOscillator}
 use Rattle.terrain.specs.Heights.{Reading}
 use Rattle.terrain.specs.Layers.{layer_top}
+use Rattle.terrain.specs.declared.Ground.{Ground}
 use Rattle.wave_terrain_engine.specs.declared.WaveTerrainEngine.{WaveTerrainEngine}
 use Rattle.wave_terrain_engine.specs.Block.{
   Frame,
@@ -56,7 +50,16 @@ unfolding state_after
 entry_of zero f = omega arith
 entry_of (suc i) f = entry_of i (frame_next f) ∙ omega arith
 
-module _ (sine : List Float) (bank : List ℤ) (map : List ℕ) (run run2 : List Float) (start : Interpolators) (n : ℕ) where
+module _ (g : Ground) (run run2 : List Float) (start : Interpolators) (n : ℕ) where
+  abbrev sine : List Float
+  sine = g.sine.now
+
+  abbrev bank : List ℤ
+  bank = g.bank.now
+
+  abbrev map : List ℕ
+  map = g.map.now
+
   abbrev first : Frame
   first = record { at = start; ij = 0 }
 
@@ -76,11 +79,11 @@ module _ (sine : List Float) (bank : List ℤ) (map : List ℕ) (run run2 : List
     pub xs_are : Filled (stage_x r1 start) nan xs (n * 2)
     pub layers_are : Filled (stage_layer (layer_top map) start) 0 layers n
     pub fractions_are : Filled (stage_fraction (layer_top map) start) nan fractions n
-    pub z0s_are : Filled (λ j. (stage_height sine bank map xs r2 layers 0 j).value) nan z0s (n * 2)
-    pub holds_are : holds ≡ sum_of suc (λ j. (stage_height sine bank map xs r2 layers 0 j).holds) (n * 2) 0
+    pub z0s_are : Filled (λ j. (stage_height g xs r2 layers 0 j).value) nan z0s (n * 2)
+    pub holds_are : holds ≡ sum_of suc (λ j. (stage_height g xs r2 layers 0 j).holds) (n * 2) 0
     pub holds_most : AtMost (n * 2) holds
-    pub z1s_are : Filled (λ j. (stage_height sine bank map xs r2 layers 1 j).value) nan z1s (n * 2)
-    pub holds'_are : holds' ≡ sum_of suc (λ j. (stage_height sine bank map xs r2 layers 1 j).holds) (n * 2) 0
+    pub z1s_are : Filled (λ j. (stage_height g xs r2 layers 1 j).value) nan z1s (n * 2)
+    pub holds'_are : holds' ≡ sum_of suc (λ j. (stage_height g xs r2 layers 1 j).holds) (n * 2) 0
     pub holds'_most : AtMost (n * 2) holds'
     pub phases_are : Filled (stage_phase r2 fractions z0s z1s) nan phases n
     pub out_is : Filled (stage_out r2 fractions z0s z1s) 0 out n
@@ -92,7 +95,7 @@ module _ (sine : List Float) (bank : List ℤ) (map : List ℕ) (run run2 : List
       (p : Staged r1 r2 xs fractions z0s z1s phases layers out aux holds holds') where
     -- the height at oversample j
     abbrev height : ℕ → ℕ → Reading
-    height up j = stage_height sine bank map xs r2 layers up j
+    height up j = stage_height g xs r2 layers up j
 
     -- an oversample's height is the frame's
     height_is : (i j up : ℕ) → i < n → j / 2 ≡ i → height up j ≡ height_at sine bank map run run2 (frame_at i) j ((layer_of (layer_top map) (frame_at i).at).whole + up)
@@ -132,7 +135,7 @@ module _ (sine : List Float) (bank : List ℤ) (map : List ℕ) (run run2 : List
         ext_get_or 0 ws (each_of frame_next g n first) (e ∙ sym (each_length frame_next g n first))
         (λ i l. let k : i < n = rw e at l in q.done i k ∙ h i k ∙ sym (each_at frame_next g 0 n first i k))
 
-    pub staged_frames : FramesDone sine bank map run run2 start n (plus holds holds') out aux
+    pub staged_frames : FramesDone g run run2 start n (plus holds holds') out aux
     staged_frames =
         record {
           out_is = filled_to (stage_out r2 fractions z0s z1s) (frame_out sine bank map run run2) out p.out_long out_at p.out_is;
@@ -142,7 +145,7 @@ module _ (sine : List Float) (bank : List ℤ) (map : List ℕ) (run run2 : List
         }
 
 -- the path, then the frames: the block
-module _ (bank : List ℤ) (map : List ℕ) (sine high low : List Float) (n : ℕ) (p : EngineParameters) (s : WaveTerrainEngine)
+module _ (g : Ground) (high low : List Float) (n : ℕ) (p : EngineParameters) (s : WaveTerrainEngine)
     (f0 half radius : Float) (path : FastSineOscillator) (r1 r2 : List Float) (start end : Interpolators) (holds : Holds) (out aux : List ℕ)
     (f0_is : f0 ≡ note_to_frequency high low p.note p.a0_normalized)
     (half_is : half ≡ scale)
@@ -150,13 +153,13 @@ module _ (bank : List ℤ) (map : List ℕ) (sine high low : List Float) (n : �
     (path_is : path ≡ path_after s.path (f0 ⊗ half) radius (2 * n))
     (r1_is : take (2 * n) r1 ≡ path_run s.path (f0 ⊗ half) radius (2 * n))
     (r2_is : take (2 * n) r2 ≡ path_run2 s.path (f0 ⊗ half) radius (2 * n))
-    (start_is : start ≡ interpolators_of map p s n)
+    (start_is : start ≡ interpolators_of g.map.now p s n)
     (end_is : end ≡ state_after interpolators_next n start)
-    (done : FramesDone sine bank map (take (2 * n) r1) (take (2 * n) r2) start n holds out aux) where
+    (done : FramesDone g (take (2 * n) r1) (take (2 * n) r2) start n holds out aux) where
   abbrev left : WaveTerrainEngine
   left = record { path = path; offset = end.offset.value; terrain_idx = end.terrain_idx.value }
 
-  pub block_renders : Renders (rendered bank map sine high low n p s) n left holds out aux
+  pub block_renders : Renders (rendered g.bank.now g.map.now g.sine.now high low n p s) n left holds out aux
   unfolding rendered
   block_renders =
       record {

@@ -1,6 +1,6 @@
 -- The constants that the source computes.
-use mathlib.Core.Path.{◌≡◌, refl}
-use lib.Ieee.{div, of_int, round}
+use Rattle.std.proofs.Common.{◌≡◌, refl}
+use Rattle.std.specs.Float.Ieee.{div, of_int, round}
 use Rattle.words.specs.Binary32.{decimal}
 use Rattle.wave_terrain_engine.specs.Block.{scale}
 

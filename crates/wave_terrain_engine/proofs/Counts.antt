@@ -1,11 +1,6 @@
 -- What oversamples hold, summed: two for each frame, and at most one each.
-use mathlib.Core.Path.{◌≡◌, refl, sym, ap, ◌∙◌}
-use mathlib.Core.List.{List}
-use Prim.Native.Nat.{ℕ, zero, suc, ◌+◌, ◌*◌, ◌/◌, ◌≤◌, ◌<◌}
-use native.Mathlib.Omega.{arith}
-use lib.IntN.{ℤ}
-use lib.ListN.{get_or}
-use lib.Ieee.{Float, nan}
+use Rattle.std.proofs.Common.{◌≡◌, refl, sym, ap, ◌∙◌, List, ℕ, zero, suc, ◌+◌, ◌*◌, ◌/◌, ◌≤◌, ◌<◌, arith, get_or, Float}
+use Rattle.std.specs.Float.{nan}
 use Rattle.utils.specs.Holds.{none, plus, total, AtMost, OfReadings}
 use Rattle.utils.specs.Frames.{state_after, each_of, sum_of}
 use Rattle.utils.specs.Rendered.{run_length}
@@ -13,6 +8,7 @@ use Rattle.utils.specs.declared.holds.Holds.{Holds}
 use Rattle.utils.proofs.Sums.{plus_none, plus_assoc, plus_four, most_more}
 use Rattle.utils.proofs.Frames.{sum_suc, sum_most, count_suc, count_none, count_more}
 use Rattle.utils.proofs.Summing.{sum_has, readings_summed}
+use Rattle.terrain.specs.declared.Ground.{Ground}
 use Rattle.terrain.specs.Tally.{tally, holds_by}
 use Rattle.terrain.proofs.Layers.{terrain_held, terrain_kinds}
 use Rattle.terrain.proofs.Tallies.{tally_plus, tally_most, holds_back}
@@ -39,9 +35,9 @@ module _ {S : Type 0} (next : S → S) (h : S → Holds) (s : S) (f g : ℕ → 
       (ap (plus (plus (sum_of suc f (n * 2) 0) (sum_of suc g (n * 2) 0))) (plus_four _ _ _ _) ∙ plus_four _ _ _ _)
 
 -- ---- the readings of a layer, summed: few, of the kinds that readings have, and so counted by their number
-module _ (sine : List Float) (bank : List ℤ) (map : List ℕ) (xs ys : List Float) (layers : List ℕ) (up : ℕ) where
+module _ (g : Ground) (xs ys : List Float) (layers : List ℕ) (up : ℕ) where
   abbrev holds_at : ℕ → Holds
-  holds_at j = (stage_height sine bank map xs ys layers up j).holds
+  holds_at j = (stage_height g xs ys layers up j).holds
 
   unfoldable pub held_before : ℕ → Holds
   held_before n = sum_of suc holds_at n 0
@@ -50,7 +46,7 @@ module _ (sine : List Float) (bank : List ℤ) (map : List ℕ) (xs ys : List Fl
   unfolding held_before
   readings_few n =
       most_more (omega arith)
-      (sum_most suc holds_at 1 (λ j. terrain_held sine bank map (get_or xs j nan) (get_or ys j nan) (get_or layers (j / 2) 0 + up)) n 0)
+      (sum_most suc holds_at 1 (λ j. terrain_held g.sine.now g.bank.now g.map.now (get_or xs j nan) (get_or ys j nan) (get_or layers (j / 2) 0 + up)) n 0)
 
   pub tally_none : 0 ≡ tally (held_before 0)
   unfolding held_before
@@ -68,6 +64,6 @@ module _ (sine : List Float) (bank : List ℤ) (map : List ℕ) (xs ys : List Fl
   unfolding held_before
   tally_back n held r l e q =
       let few = readings_few n in
-      let kinds = sum_has OfReadings readings_summed suc holds_at (λ j. terrain_kinds sine bank map (get_or xs j nan) (get_or ys j nan) (get_or layers (j / 2) 0 + up)) n 0 in
+      let kinds = sum_has OfReadings readings_summed suc holds_at (λ j. terrain_kinds g.sine.now g.bank.now g.map.now (get_or xs j nan) (get_or ys j nan) (get_or layers (j / 2) 0 + up)) n 0 in
       let is = q ∙ ap holds_by e ∙ holds_back (held_before n) kinds (most_more (omega arith) few) in
       (rw is few, is)

@@ -1,13 +1,13 @@
 -- What the short loops over lent runs leave: frame by frame the values of `Block`, read off the runs that the loop before left.
-use Rattle.std.specs.Prelude.{ℕ, ◌+◌, ◌*◌, ◌/◌, ◌≤◌, ◌≡◌, List, ℤ, length, get_or, Float}
+use Rattle.std.specs.Prelude.{ℕ, ◌+◌, ◌*◌, ◌/◌, ◌≡◌, List, get_or, Float}
 use Rattle.std.specs.Float.{nan, binary32}
 use Rattle.std.specs.Float.Ieee.{to_bits}
 use Rattle.utils.specs.Holds.{AtMost}
 use Rattle.utils.specs.Frames.{state_after}
-use Rattle.utils.specs.Rendered.{most_frames}
 use Rattle.utils.specs.declared.holds.Holds.{Holds}
 use Rattle.sine_oscillator.specs.Sine.{sine_of}
 use Rattle.terrain.specs.Heights.{Reading, terrain_of}
+use Rattle.terrain.specs.declared.Ground.{Ground}
 use Rattle.wave_terrain_engine.specs.Block.{oversampling, interpolators_next, offset_of, layer_of, shifted_x, between, out_of, phase_of, frames_out, frames_aux, frames_holds}
 use Rattle.wave_terrain_engine.specs.declared.frames.Interpolators.{Interpolators}
 
@@ -23,8 +23,8 @@ abbrev pub stage_fraction : ℕ → Interpolators → ℕ → Float
 stage_fraction top start i = (layer_of top (state_after interpolators_next i start)).fraction
 
 -- The height at oversample j, `up` layers above its frame's.
-abbrev pub stage_height : List Float → List ℤ → List ℕ → List Float → List Float → List ℕ → ℕ → ℕ → Reading
-stage_height sine bank map xs ys layers up j = terrain_of sine bank map (get_or xs j nan) (get_or ys j nan) (get_or layers (j / oversampling) 0 + up)
+abbrev pub stage_height : Ground → List Float → List Float → List ℕ → ℕ → ℕ → Reading
+stage_height g xs ys layers up j = terrain_of g.sine.now g.bank.now g.map.now (get_or xs j nan) (get_or ys j nan) (get_or layers (j / oversampling) 0 + up)
 
 module _ (ys fractions z0s z1s : List Float) where
   -- z of oversample j of frame i.
@@ -42,19 +42,9 @@ module _ (ys fractions z0s z1s : List Float) where
 abbrev pub stage_aux : List Float → List Float → ℕ → ℕ
 stage_aux sine phases i = to_bits binary32 (sine_of sine (get_or phases i nan))
 
--- Room for the oversamples and the frames of n frames, which are few.
-pub record Room (n : ℕ) (run run2 xs z1s : List Float) (layers : List ℕ) (fractions : List Float) : Type 0 where
-  pub few_frames : n ≤ most_frames
-  pub run_room : n * oversampling ≤ length run
-  pub run2_room : n * oversampling ≤ length run2
-  pub xs_room : n * oversampling ≤ length xs
-  pub z1s_room : n * oversampling ≤ length z1s
-  pub layers_room : n ≤ length layers
-  pub fractions_room : n ≤ length fractions
-
 -- What the frame loop leaves.
-pub record FramesDone (sine : List Float) (bank : List ℤ) (map : List ℕ) (run run2 : List Float) (start : Interpolators) (n : ℕ) (holds : Holds) (out aux : List ℕ) : Type 0 where
-  pub out_is : out ≡ frames_out sine bank map run run2 start n
-  pub aux_is : aux ≡ frames_aux sine bank map run run2 start n
-  pub holds_are : holds ≡ frames_holds sine bank map run run2 start n
+pub record FramesDone (g : Ground) (run run2 : List Float) (start : Interpolators) (n : ℕ) (holds : Holds) (out aux : List ℕ) : Type 0 where
+  pub out_is : out ≡ frames_out g.sine.now g.bank.now g.map.now run run2 start n
+  pub aux_is : aux ≡ frames_aux g.sine.now g.bank.now g.map.now run run2 start n
+  pub holds_are : holds ≡ frames_holds g.sine.now g.bank.now g.map.now run run2 start n
   pub holds_most : AtMost (4 * n) holds

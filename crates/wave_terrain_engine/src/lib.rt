@@ -14,14 +14,14 @@
 
 ghost use Rattle.std.specs.Prelude.{◌≡◌, length};
 ghost use Rattle.utils.specs.Rendered.{Places, Renders};
-ghost use Rattle.terrain.specs.Layers.{Lent};
 ghost use Rattle.wave_terrain_engine.specs.Block.{fresh, radius_of, interpolators_of, rendered};
 
 use frames::Interpolators;
 use sine_oscillator::FastSineOscillator;
-use utils::engine::{CORNERS_LENGTH, EngineParameters, MOST_FRAMES, RUN_LENGTH};
-use utils::holds::Holds;
+use terrain::Ground;
+use utils::engine::{Block, EngineParameters, Workspace};
 use utils::parameter_interpolator::ParameterInterpolator;
+use utils::units::PitchRatios;
 
 mod frames;
 
@@ -30,13 +30,6 @@ pub struct WaveTerrainEngine {
     pub path: FastSineOscillator,
     pub offset: f32,
     pub terrain_idx: f32,
-}
-
-// The state after a block, and what its readings held.
-#[derive(Clone, Copy)]
-pub struct Block {
-    pub state: WaveTerrainEngine,
-    pub holds: Holds,
 }
 
 impl WaveTerrainEngine {
@@ -50,6 +43,7 @@ impl WaveTerrainEngine {
 
     pub const BANK_EDGE: usize = terrain::BANK_EDGE;
 
+    #[tactic(auto, unfolding(words::specs::Binary32::of_bits, words::specs::Binary32::decimal))]
     pub fn init() -> WaveTerrainEngine
         ensures { result ≡ fresh }
     {
@@ -60,34 +54,24 @@ impl WaveTerrainEngine {
         }
     }
 
-    // The frames of a block, as many as `out` has words. The tables `sine`, `high` and `low`, and the runs after them, which are
-    // overwritten, are lent.
+    // The frames of a block, as many as `out` has words. The arrays to work in are lent, and overwritten.
     pub fn render(
         self,
         parameters: EngineParameters,
-        bank: &[i16],
-        map: &[u8],
-        sine: &[f32; 641],
-        high: &[f32; 256],
-        low: &[f32; 256],
-        layers: &mut [u32; MOST_FRAMES],
-        run_1: &mut [f32; RUN_LENGTH],
-        run_2: &mut [f32; RUN_LENGTH],
-        run_3: &mut [f32; RUN_LENGTH],
-        run_4: &mut [f32; RUN_LENGTH],
-        fractions: &mut [f32; CORNERS_LENGTH],
+        ground: &Ground<'_>,
+        ratios: &PitchRatios,
+        work: &mut Workspace,
         out: &mut [u32],
         aux: &mut [u32],
-    ) -> Block
-        requires lent { Lent bank.now map.now }
-        requires places { Places out.old aux.old }
-        ensures { Renders (rendered bank.now map.now sine.now high.now low.now (length out.old) parameters self)
+    ) -> Block<WaveTerrainEngine>
+        requires { Places out.old aux.old }
+        ensures { Renders (rendered ground.now.bank.now ground.now.map.now ground.now.sine.now ratios.now.high ratios.now.low
+            (length out.old) parameters self)
             (length out.old) result.state result.holds out.new aux.new }
     {
         let n = out.len();
         let f0 = utils::engine::note_to_frequency(
-            high,
-            low,
+            ratios,
             parameters.note,
             parameters.a0_normalized,
         );
@@ -96,37 +80,23 @@ impl WaveTerrainEngine {
             f0 * frames::SCALE,
             radius,
             frames::OVERSAMPLING * n,
-            run_1,
-            run_2,
+            &mut work.run_1,
+            &mut work.run_2,
         );
-        let start = self.interpolators(parameters, map, n);
-        let frames = frames::render_frames(
-            start,
-            terrain::layer_top(map),
-            sine,
-            bank,
-            map,
-            run_1,
-            run_2,
-            run_3,
-            run_4,
-            layers,
-            fractions,
-            out,
-            aux,
-        );
-        let holds = frames.holds;
+        let start = self.interpolators(parameters, ground.map, n);
+        let frames = frames::render_frames(start, ground, work, out, aux);
         Block {
             state: WaveTerrainEngine {
                 path,
-                offset: frames.end.offset.value,
-                terrain_idx: frames.end.terrain_idx.value,
+                offset: frames.state.offset.value,
+                terrain_idx: frames.state.terrain_idx.value,
             },
-            holds,
+            holds: frames.holds,
         }
     }
 
     // Offset and layer on their way over n frames.
+    #[tactic(auto, unfolding(words::specs::Binary32::of_bits, words::specs::Binary32::decimal, crate::specs::Block::interpolators_of))]
     fn interpolators(self, parameters: EngineParameters, map: &[u8], n: usize) -> Interpolators
         ensures { result ≡ interpolators_of map.now parameters self n }
     {
@@ -145,6 +115,7 @@ impl WaveTerrainEngine {
 }
 
 // The radius of the path.
+#[tactic(auto, unfolding(words::specs::Binary32::of_bits, words::specs::Binary32::decimal))]
 fn radius_at(f0: f32, timbre: f32) -> f32
     ensures { result ≡ radius_of f0 timbre }
 {

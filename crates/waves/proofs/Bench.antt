@@ -1,5 +1,5 @@
 -- Document 01, "Bench values", of wave numbers and levels, computed.
-use mathlib.Core.Path.{◌≡◌, refl}
+use Rattle.std.proofs.Common.{◌≡◌, refl}
 use Rattle.waves.specs.Waves.{wave, fold_level}
 
 -- "waves (1,0,3) 101, (7,7,3) 27, (8,7,2) 0"

@@ -1,15 +1,9 @@
 -- The corner readings from their places in the bank: a wave that is read from its start is the bank read from that place on, and every place leaves room for the phase.
-use mathlib.Core.Path.{◌≡◌, sym, ap, ◌∙◌, subst}
-use mathlib.Core.List.{List, [], ◌∷◌}
-use Prim.Native.Nat.{ℕ, ◌+◌, ◌/◌, ◌%◌}
-use native.Mathlib.Omega.{arith}
-use lib.IntN.{ℤ, pos}
-use lib.ListN.{drop}
-use lib.Ieee.{Float}
+use Rattle.std.proofs.Common.{◌≡◌, sym, List, [], ◌∷◌, ℕ, ◌+◌, ◌/◌, ◌%◌, arith, ℤ, pos, drop, Float}
 use Rattle.oscillator.specs.Readings.{float_of_i16}
 use Rattle.waves.specs.declared.Places.{Places}
-use Rattle.waves.specs.Waves.{read_wave, level_at, corners_at, fold_level}
-use Rattle.waves.specs.Stages.{places_of_level, places_of, read_at, read_level, LevelFits}
+use Rattle.waves.specs.Waves.{read_wave, level_at, corners_at}
+use Rattle.waves.specs.Stages.{places_of_level, read_at, read_level, LevelFits}
 use Rattle.oscillator.proofs.Readings.{hermite_part}
 use Rattle.waves.proofs.Waves.{wave_below}
 
@@ -20,13 +14,12 @@ level_read : (bank : List ℤ) (x y z p : ℕ) (f : Float) → read_level bank (
 unfolding places_of_level read_wave
 level_read bank x y z p f = simp from_place
 
-pub corners_read : (bank : List ℤ) (s : Places) (p : ℕ) (f : Float) → s ≡ places_of s.key
+pub corners_read : (bank : List ℤ) (s : Places) (p : ℕ) (f : Float)
     → read_level bank s.z0 p f ∷ read_level bank s.z1 p f ∷ [] ≡ corners_at bank p f (s.key % 8) (s.key / 8 % 8) (s.key / 64)
-unfolding places_of corners_at
-corners_read bank s p f e =
-    ap (λ (t : Places). read_level bank t.z0 p f ∷ read_level bank t.z1 p f ∷ []) e ∙ rw (level_read, level_read)
+unfolding corners_at
+corners_read bank s p f = rw (s.z0_value, s.z1_value) (simp level_read)
 
-level_fits : (x y z : ℕ) → LevelFits (places_of_level x y z)
+pub level_fits : (x y z : ℕ) → LevelFits (places_of_level x y z)
 unfolding places_of_level
 level_fits x y z =
     record {
@@ -35,19 +28,3 @@ level_fits x y z =
       x0y1_fits = omega (arith, wave_below x (y + 1) z);
       x1y1_fits = omega (arith, wave_below (x + 1) (y + 1) z);
     }
-
-pub z0_fits : (s : Places) → s ≡ places_of s.key → LevelFits s.z0
-unfolding places_of
-z0_fits s e = subst (λ (t : Places). LevelFits t.z0) (sym e) (level_fits (s.key % 8) (s.key / 8 % 8) (fold_level (s.key / 64)))
-
-pub z1_fits : (s : Places) → s ≡ places_of s.key → LevelFits s.z1
-unfolding places_of
-z1_fits s e = subst (λ (t : Places). LevelFits t.z1) (sym e) (level_fits (s.key % 8) (s.key / 8 % 8) (fold_level (s.key / 64 + 1)))
-
--- places that are a key's are those of the key they carry
-pub own_key : (s : Places) (k : ℕ) → s ≡ places_of k → s.key ≡ k
-unfolding places_of
-own_key s k e = ap (λ (t : Places). t.key) e
-
-pub by_own_key : (s : Places) (k : ℕ) → s ≡ places_of k → s ≡ places_of s.key
-by_own_key s k e = e ∙ ap places_of (sym (own_key s k e))

@@ -1,15 +1,8 @@
 -- The corners stored to a lent list and loaded again: eight stores in a row are a part of the list put in, so the eight just stored load as they are, and those before them stay.
-use mathlib.Core.Path.{◌≡◌, ◌∙◌, subst}
-use mathlib.Core.List.{List, [], ◌∷◌, ◌++◌, append_assoc}
-use Prim.Native.Nat.{ℕ, suc, ◌+◌, ◌*◌, ◌<◌}
-use native.Mathlib.Nat.{not-suc-le-zero}
-use native.Mathlib.Numerals.{add-one}
-use native.Mathlib.Omega.{arith}
-use lib.ListN.{length, get_or, take, drop, get_or-append}
-use lib.Seq.{sets-eq, length-take-le, get_or-append_seam, get_or-append-add, get_or-take}
-use borrow.Author.Count.{below_more}
-use lib.IntN.{ℤ}
-use lib.Ieee.{Float, nan}
+use Rattle.std.proofs.Common.{◌≡◌, ◌∙◌, subst, List, [], ◌∷◌, ◌++◌, append_assoc, ℕ, suc, ◌+◌, ◌*◌, ◌<◌, not-suc-le-zero, add-one, arith, length, get_or, take, drop, length-take-le, get_or-append-add, get_or-take, below_more, ℤ, Float}
+use Rattle.std.proofs.Math.ListN.{get_or-append}
+use Rattle.std.proofs.Math.Seq.{sets-eq, get_or-append_seam}
+use Rattle.std.specs.Float.{nan}
 use Rattle.waves.specs.Waves.{corners_at}
 use Rattle.waves.specs.Stages.{loaded, stored, corner, corners_of, CornersRead}
 

@@ -1,10 +1,5 @@
 -- Wave numbers: the waves of the eight corners from that of the nearest, by steps along x and y, and that each wave lies in the bank.
-use mathlib.Core.Path.{◌≡◌}
-use mathlib.Core.Bool.{Bool, true, false, cond}
-use Prim.Native.Nat.{ℕ, ◌+◌, ◌*◌, ◌%◌, ◌<◌}
-use native.Mathlib.Omega.{arith}
-use lib.Dec.{eqb}
-use borrow.Author.Tests.{ne_eqb}
+use Rattle.std.proofs.Common.{◌≡◌, Bool, true, false, cond, ℕ, ◌+◌, ◌*◌, ◌%◌, ◌<◌, arith, eqb, ne_eqb}
 use Rattle.oscillator.specs.Bank.{waves}
 use Rattle.waves.specs.Waves.{wave, spread}
 

@@ -4,8 +4,7 @@ use Rattle.std.specs.Float.{nan}
 use Rattle.oscillator.specs.Bank.{bank_length, wave_length}
 use Rattle.oscillator.specs.Readings.{interpolate_wave_hermite, float_of_i16}
 use Rattle.waves.specs.declared.Level.{Level}
-use Rattle.waves.specs.declared.Places.{Places}
-use Rattle.waves.specs.Waves.{wave, fold_level, corners_at, fold_x, fold_y, fold_z}
+use Rattle.waves.specs.Waves.{wave, corners_at, fold_x, fold_y, fold_z}
 
 -- A key of parts within their tops.
 pub record KeyFits (key : ℕ) : Type 0 where
@@ -23,15 +22,6 @@ places_of_level x y z =
       x1y0 = wave (x + 1) y z * wave_length;
       x0y1 = wave x (y + 1) z * wave_length;
       x1y1 = wave (x + 1) (y + 1) z * wave_length;
-    }
-
--- Where the eight waves start, by the key of x, y and z.
-unfoldable pub places_of : ℕ → Places
-places_of key =
-    record {
-      key = key;
-      z0 = places_of_level (key % 8) (key / 8 % 8) (fold_level (key / 64));
-      z1 = places_of_level (key % 8) (key / 8 % 8) (fold_level (key / 64 + 1));
     }
 
 -- A reading at a place of the bank.

@@ -8,9 +8,9 @@ ghost use Rattle.utils.specs.Frames.{Filled};
 ghost use Rattle.utils.specs.Rendered.{most_frames, corners_length};
 ghost use Rattle.oscillator.specs.Bank.{bank_length, waves, wave_length, table_size};
 ghost use Rattle.waves.specs.Waves.{spread, wave, fold_level, corners_at, mix, fold_x, fold_y, fold_z};
-ghost use Rattle.waves.specs.Stages.{KeysFit, LevelFits, places_of_level, places_of, read_at, read_level, CornersRead, stored, loaded, mix_at};
+ghost use Rattle.waves.specs.Stages.{KeysFit, LevelFits, places_of_level, read_at, read_level, CornersRead, stored, loaded, mix_at};
 
-use oscillator::bank::{WAVE_LENGTH, WAVES};
+use oscillator::bank::{BANK_LENGTH, WAVE_LENGTH, WAVES};
 use oscillator::wavetable_oscillator::interpolate_wave_hermite;
 use utils::engine::{CORNERS_LENGTH, MOST_FRAMES, RUN_LENGTH};
 
@@ -28,15 +28,18 @@ pub struct Level {
     pub x1y1: usize,
 }
 
-// Where the eight waves of a frame start, by its whole x, y and z.
+// Where the eight waves of a frame start, by its key: its whole x, y and z as x + 8 y + 64 z.
 #[derive(Clone, Copy)]
 pub struct Places {
     pub key: u32,
     pub z0: Level,
     pub z1: Level,
+    ghost z0_value: { z0 ≡ places_of_level (key % 8) (key / 8 % 8) (fold_level (key / 64)) },
+    ghost z1_value: { z1 ≡ places_of_level (key % 8) (key / 8 % 8) (fold_level (key / 64 + 1)) },
 }
 
 // Levels 4 to 7 are 3 to 0 again.
+#[tactic(auto, unfolding(crate::specs::Waves::fold_level))]
 fn fold_level(z: usize) -> usize
     requires { z < 8 }
     ensures value { result ≡ fold_level z }
@@ -60,6 +63,7 @@ fn along_y(level: usize) -> usize
 }
 
 // The wave number of a corner.
+#[tactic(auto, using(crate::proofs::Waves::wave_low, crate::proofs::Waves::wave_top))]
 fn wave(x: usize, y: usize, level: usize) -> usize
     requires { (x < 8) × ((y < 8) × (level < 4)) }
     ensures { result ≡ wave x y level }
@@ -84,6 +88,7 @@ fn further(wave: usize, step: usize) -> usize
 }
 
 // The places of a level's four waves around x, y.
+#[tactic(auto, using(crate::proofs::Waves::wave_below, crate::proofs::Waves::wave_along_x, crate::proofs::Waves::wave_along_y, crate::proofs::Waves::spread_below), unfolding(crate::specs::Stages::places_of_level))]
 fn level_at(x: usize, y: usize, level: usize) -> Level
     requires { (x < 8) × ((y < 8) × (level < 4)) }
     ensures { result ≡ places_of_level x y level }
@@ -103,7 +108,7 @@ fn level_at(x: usize, y: usize, level: usize) -> Level
 // The places of a key, which is x + 8 y + 64 z.
 fn places_at(key: u32) -> Places
     requires { key < 448 }
-    ensures { result ≡ places_of key }
+    ensures { result.key ≡ key }
 {
     let x = (key % 8) as usize;
     let y = (key / 8 % 8) as usize;
@@ -117,9 +122,8 @@ fn places_at(key: u32) -> Places
 
 // The places of a key: those at hand where it has not changed.
 fn places_for(at_hand: Places, key: u32) -> Places
-    requires at_hand_value { at_hand ≡ places_of at_hand.key }
-    requires key_bound { key < 448 }
-    ensures { result ≡ places_of key }
+    requires { key < 448 }
+    ensures { result.key ≡ key }
 {
     if key == at_hand.key {
         at_hand
@@ -129,9 +133,8 @@ fn places_for(at_hand: Places, key: u32) -> Places
 }
 
 // The readings of two waves at a phase: its whole part p, its fraction f.
-fn read_row(bank: &[i16], a: usize, b: usize, p: usize, f: f32) -> [f32; 2]
-    requires bank_len { length bank.now ≡ bank_length }
-    requires wave_length_bound { (a + wave_length ≤ bank_length) × ((b + wave_length ≤ bank_length) × (p < table_size)) }
+fn read_row(bank: &[i16; BANK_LENGTH], a: usize, b: usize, p: usize, f: f32) -> [f32; 2]
+    requires { (a + wave_length ≤ bank_length) × ((b + wave_length ≤ bank_length) × (p < table_size)) }
     ensures { result ≡ read_at bank.now (a + p) f ∷ read_at bank.now (b + p) f ∷ [] }
 {
     let x0 = interpolate_wave_hermite(bank, a + p, f);
@@ -140,8 +143,8 @@ fn read_row(bank: &[i16], a: usize, b: usize, p: usize, f: f32) -> [f32; 2]
 }
 
 // The four readings of a level, by y and x.
-fn read_level(bank: &[i16], s: Level, p: usize, f: f32) -> [[f32; 2]; 2]
-    requires bank_len { (length bank.now ≡ bank_length) × (p < table_size) }
+fn read_level(bank: &[i16; BANK_LENGTH], s: Level, p: usize, f: f32) -> [[f32; 2]; 2]
+    requires phase_fits { p < table_size }
     requires level_fits { LevelFits s }
     ensures { result ≡ read_level bank.now s p f }
 {
@@ -151,9 +154,8 @@ fn read_level(bank: &[i16], s: Level, p: usize, f: f32) -> [[f32; 2]; 2]
 }
 
 // The eight corner readings, by z, y and x.
-fn read_corners(bank: &[i16], s: Places, p: usize, f: f32) -> [[[f32; 2]; 2]; 2]
-    requires bank_len { (length bank.now ≡ bank_length) × (p < table_size) }
-    requires s_value { s ≡ places_of s.key }
+fn read_corners(bank: &[i16; BANK_LENGTH], s: Places, p: usize, f: f32) -> [[[f32; 2]; 2]; 2]
+    requires { p < table_size }
     ensures { result ≡ corners_at bank.now p f (s.key % 8) (s.key / 8 % 8) (s.key / 64) }
 {
     let z0 = read_level(bank, s.z0, p, f);
@@ -161,7 +163,8 @@ fn read_corners(bank: &[i16], s: Places, p: usize, f: f32) -> [[[f32; 2]; 2]; 2]
     [z0, z1]
 }
 
-// The corners into eight places of the lent list.
+// The corners into eight places of the lent list, one by one: a copy_from_slice of the flattened corners takes more instructions a frame.
+#[tactic(auto, unfolding(crate::specs::Stages::stored))]
 fn store(c: [[[f32; 2]; 2]; 2], at: usize, corners: &mut [f32])
     requires { at + 7 < length corners.old }
     ensures { corners.new ≡ stored corners.old at c }
@@ -176,30 +179,29 @@ fn store(c: [[[f32; 2]; 2]; 2], at: usize, corners: &mut [f32])
     corners[at + 7] = c[1][1][1];
 }
 
-// The corner readings of `size` frames.
+// The corner readings of `size` frames. They lie flat, eight to a frame: a struct that is lent gets no generated proof with an array of arrays in it.
 pub fn read_all(
-    bank: &[i16],
+    bank: &[i16; BANK_LENGTH],
     size: usize,
     keys: &[u32; MOST_FRAMES],
     phases: &[f32; RUN_LENGTH],
     corners: &mut [f32],
 )
-    requires bank_len { (length bank.now ≡ bank_length) × ((size ≤ most_frames) × (size * 8 ≤ length corners.old)) }
+    requires places { (size ≤ most_frames) × (size * 8 ≤ length corners.old) }
     requires keys_fit { KeysFit keys.now size }
     ensures { CornersRead bank.now keys.now phases.now corners.new size }
 {
     let mut s = places_at(0);
-    let mut i = 0;
-    while i < size {
+    for i in 0..size {
         let key = keys[i];
         s = places_for(s, key % 512);
         let c = read_corners(bank, s, (key / 512) as usize, phases[i]);
         store(c, i * 8, corners);
-        i += 1;
     }
 }
 
 // The corners out of eight places of the list.
+#[tactic(auto, unfolding(crate::specs::Stages::loaded))]
 fn load(corners: &[f32; CORNERS_LENGTH], at: usize) -> [[[f32; 2]; 2]; 2]
     requires { at + 7 < corners_length }
     ensures { result ≡ loaded corners.now at }
@@ -265,10 +267,8 @@ pub fn fold_all(
     requires { (size ≤ most_frames) × (size ≤ length mixes.old) }
     ensures { Filled (mix_at xs.now ys.now zs.now corners.now) nan mixes.new size }
 {
-    let mut i = 0;
-    while i < size {
+    for i in 0..size {
         let c = load(corners, i * 8);
         mixes[i] = fold_z(fold_y(fold_x(c, xs[i]), ys[i]), zs[i]);
-        i += 1;
     }
 }

@@ -1,9 +1,5 @@
 -- What a block holds has the kinds that frames have.
-use mathlib.Core.Bool.{◌||◌}
-use mathlib.Core.List.{List}
-use Prim.Native.Nat.{ℕ}
-use lib.IntN.{ℤ}
-use lib.Ieee.{Float}
+use Rattle.std.proofs.Common.{◌||◌, List, ℕ, ℤ, Float}
 use Rattle.utils.specs.Holds.{OfFrames}
 use Rattle.utils.specs.declared.engine.EngineParameters.{EngineParameters}
 use Rattle.utils.proofs.Summing.{sum_has, frames_summed, frame_kinds}

@@ -1,22 +1,18 @@
 -- A block in stages is the block frame by frame: at each frame, what a stage leaves is what the definition has from the state before that frame.
-use mathlib.Core.Path.{◌≡◌, refl, sym, ap, ◌∙◌, subst}
-use mathlib.Core.List.{List}
-use Prim.Native.Nat.{ℕ, zero, suc, ◌*◌, ◌≤◌, ◌<◌}
-use native.Mathlib.Omega.{arith}
-use lib.IntN.{ℤ}
-use lib.ListN.{length, get_or}
-use lib.Ieee.{Float, nan, binary32, to_bits}
+use Rattle.std.proofs.Common.{◌≡◌, refl, sym, ap, ◌∙◌, subst, List, ℕ, zero, suc, ◌*◌, ◌≤◌, ◌<◌, arith, ℤ, length, get_or, Float}
+use lib.Ieee.{to_bits}
+use Rattle.std.specs.Float.{nan, binary32}
 use Rattle.utils.specs.Holds.{total, AtMost}
 use Rattle.utils.specs.Frames.{state_after, sum_of, Filled}
 use Rattle.utils.specs.Rendered.{Renders}
 use Rattle.utils.proofs.Sums.{most_more}
 use Rattle.utils.proofs.Frames.{after_suc, sum_most, part_after, part_each, filled_each}
 use Rattle.oscillator.specs.declared.wavetable_oscillator.Differentiator.{Differentiator}
+use Rattle.utils.specs.declared.engine.Block.{Block}
 use Rattle.utils.specs.declared.engine.EngineParameters.{EngineParameters}
 use Rattle.wavetable_engine.specs.declared.WavetableEngine.{WavetableEngine}
 use Rattle.wavetable_engine.specs.declared.SetUp.{SetUp}
 use Rattle.wavetable_engine.specs.declared.frames.Positions.{Positions}
-use Rattle.wavetable_engine.specs.declared.frames.Walked.{Walked}
 use Rattle.wavetable_engine.specs.Wavetable.{moved, parts_of, reading, lofi, Frame, framed, set_up, rendered}
 use Rattle.waves.specs.Stages.{KeysFit, CornersRead, mix_at}
 use Rattle.wavetable_engine.specs.Stages.{WalkedBy, Differentiating, differentiate, differentiating, sample_of}
@@ -24,7 +20,7 @@ use Rattle.wavetable_engine.proofs.Keys.{key_fits, corners_by_key}
 use Rattle.wavetable_engine.proofs.Walking.{holds_at, frame_most, parts_fit}
 
 -- the keys of a walk fit
-pub keys_fit : (lp : Float) (start : Positions) (size : ℕ) (r : Walked) (keys : List ℕ) (xs ys zs phases : List Float) → WalkedBy lp start size r keys xs ys zs phases → KeysFit keys size
+pub keys_fit : (lp : Float) (start : Positions) (size : ℕ) (r : Block Positions) (keys : List ℕ) (xs ys zs phases : List Float) → WalkedBy lp start size r keys xs ys zs phases → KeysFit keys size
 keys_fit lp start size r keys xs ys zs phases w =
     record { each_fits = λ j h. rw (w.keys_are.done j h) (key_fits _ (parts_fit _ _ refl)) }
 
@@ -77,7 +73,7 @@ module _ (bank : List ℤ) (lp : Float) (start : Frame) where
         ∙ sample_on (at j)
 
   -- the folded corners of frame j
-  pub mix_at_lem : (size : ℕ) (r : Walked) (keys : List ℕ) (xs ys zs phases corners : List Float)
+  pub mix_at_lem : (size : ℕ) (r : Block Positions) (keys : List ℕ) (xs ys zs phases corners : List Float)
       → WalkedBy lp start.positions size r keys xs ys zs phases → CornersRead bank keys phases corners size → (j : ℕ) → j < size → mix_at xs ys zs corners j ≡ reading_at j
   unfolding reading
   mix_at_lem size r keys xs ys zs phases corners w c j h =
@@ -93,7 +89,7 @@ module _ (bank : List ℤ) (lp : Float) (start : Frame) where
       )
 
 -- What the stages of a block leave behind them.
-pub record Staged (bank : List ℤ) (size : ℕ) (m : SetUp) (d₀ : Differentiator) (r : Walked) (d : Differentiator) (out aux : List ℕ) : Type 0 where
+pub record Staged (bank : List ℤ) (size : ℕ) (m : SetUp) (d₀ : Differentiator) (r : Block Positions) (d : Differentiator) (out aux : List ℕ) : Type 0 where
   pub keys : List ℕ
   pub xs : List Float
   pub ys : List Float
@@ -113,7 +109,7 @@ pub record Staged (bank : List ℤ) (size : ℕ) (m : SetUp) (d₀ : Differentia
   pub aux_long : length aux ≡ size
 
 -- said of the set-up by another name
-pub set_up_by : (bank : List ℤ) (size : ℕ) (m n : SetUp) (d₀ : Differentiator) (r : Walked) (d : Differentiator) (out aux : List ℕ)
+pub set_up_by : (bank : List ℤ) (size : ℕ) (m n : SetUp) (d₀ : Differentiator) (r : Block Positions) (d : Differentiator) (out aux : List ℕ)
     → m ≡ n → Staged bank size m d₀ r d out aux → Staged bank size n d₀ r d out aux
 set_up_by bank size m n d₀ r d out aux e g = subst (λ (k : SetUp). Staged bank size k d₀ r d out aux) e g
 
@@ -127,7 +123,7 @@ module _ (bank : List ℤ) (high low : List Float) (size : ℕ) (parameters : En
   abbrev start : Frame
   start = record { positions = m.start; diff_out = s.diff_out }
 
-  module _ (r : Walked) (d : Differentiator) (out aux : List ℕ) (g : Staged bank size m s.diff_out r d out aux) where
+  module _ (r : Block Positions) (d : Differentiator) (out aux : List ℕ) (g : Staged bank size m s.diff_out r d out aux) where
     same : (j : ℕ) → j < size → get_or g.mixes j nan ≡ reading_at bank lp start j
     same j h = g.mixes_are.done j h ∙ mix_at_lem bank lp start size r _ _ _ _ _ _ g.walked g.corners_are j h
 
@@ -149,7 +145,7 @@ module _ (bank : List ℤ) (high low : List Float) (size : ℕ) (parameters : En
     holds_few : AtMost (4 * size) r.holds
     holds_few = rw g.walked.holds_are (most_more (omega arith) (sum_most (moved lp) (holds_at lp) 1 (λ p. frame_most (parts_of (moved lp p))) size m.start))
 
-    end_is : r.end ≡ (at bank lp start size).positions
+    end_is : r.state ≡ (at bank lp start size).positions
     end_is = g.walked.end_is ∙ sym (positions_after bank lp start size)
 
     diff_out_is : d ≡ (at bank lp start size).diff_out
@@ -159,17 +155,17 @@ module _ (bank : List ℤ) (high low : List Float) (size : ℕ) (parameters : En
     abbrev left : WavetableEngine
     left =
         record {
-          phase = r.end.phase;
+          phase = r.state.phase;
           x_pre_lp = m.x_pre_lp;
           y_pre_lp = m.y_pre_lp;
           z_pre_lp = m.z_pre_lp;
-          x_lp = r.end.x_lp;
-          y_lp = r.end.y_lp;
-          z_lp = r.end.z_lp;
-          previous_x = r.end.x_modulation.value;
-          previous_y = r.end.y_modulation.value;
-          previous_z = r.end.z_modulation.value;
-          previous_f0 = r.end.f0_modulation.value;
+          x_lp = r.state.x_lp;
+          y_lp = r.state.y_lp;
+          z_lp = r.state.z_lp;
+          previous_x = r.state.x_modulation.value;
+          previous_y = r.state.y_modulation.value;
+          previous_z = r.state.z_modulation.value;
+          previous_f0 = r.state.f0_modulation.value;
           diff_out = d;
         }
 

@@ -1,17 +1,14 @@
 -- The walk goes on: the positions, what the frames held and the five lists are those of one more frame. And the parts of positions keep within their tops.
-use mathlib.Core.Path.{◌≡◌, refl, sym, ap, ◌∙◌, subst}
-use mathlib.Core.Bool.{Bool, true, false, ◌||◌, false≢true}
-use mathlib.Core.List.{List}
-use Prim.Native.Nat.{ℕ, ◌+◌, ◌≤◌, ◌<◌}
-use native.Mathlib.Omega.{arith}
-use lib.ListN.{length, set, length-set}
-use lib.Ieee.{Float, nan}
+use Rattle.std.proofs.Common.{◌≡◌, refl, sym, ap, ◌∙◌, Bool, true, false, ◌||◌, List, ℕ, ◌+◌, ◌<◌, length, set, Float}
+use Rattle.std.proofs.Math.Bool.{false≢true}
+use Rattle.std.specs.Float.{nan}
 use Rattle.words.proofs.Parts.{part_most}
 use Rattle.utils.specs.Holds.{none, of_frame, plus, total, AtMost}
-use Rattle.utils.specs.Frames.{state_after, each_of, sum_of, Filled}
+use Rattle.utils.specs.Frames.{state_after, each_of, sum_of}
 use Rattle.utils.specs.declared.holds.Holds.{Holds}
 use Rattle.utils.proofs.Sums.{plus_none, most_none, most_frame, most_plus}
-use Rattle.utils.proofs.Frames.{filled_none, filled_more, after_more, sum_more}
+use Rattle.utils.proofs.Frames.{after_more, sum_more}
+use Rattle.utils.proofs.Runs.{Filling, filling_none, filling_more}
 use Rattle.oscillator.specs.Bank.{phase_top}
 use Rattle.wavetable_engine.specs.declared.frames.Positions.{Positions}
 use Rattle.wavetable_engine.specs.declared.frames.Parts.{Parts}
@@ -33,7 +30,7 @@ unfolding holds_of
 frame_most p = most_frame p.phase.held (p.x.held || p.y.held) p.z.held
 
 -- a frame that holds nothing
-no_frame : (phase x y z : Bool) → phase || (x || (y || z)) ≡ false → of_frame phase (x || y) z ≡ none
+no_frame : (phase x y z : Bool) → phase || x || y || z ≡ false → of_frame phase (x || y) z ≡ none
 unfolding of_frame
 no_frame false false false false e = refl
 no_frame false false false true e = absurd (false≢true (sym e))
@@ -41,7 +38,7 @@ no_frame false false true z e = absurd (false≢true (sym e))
 no_frame false true y z e = absurd (false≢true (sym e))
 no_frame true x y z e = absurd (false≢true (sym e))
 
-pub adds_nothing : (holds : Holds) (p : Parts) → p.phase.held || (p.x.held || (p.y.held || p.z.held)) ≡ false → holds ≡ plus holds (holds_of p)
+pub adds_nothing : (holds : Holds) (p : Parts) → p.phase.held || p.x.held || p.y.held || p.z.held ≡ false → holds ≡ plus holds (holds_of p)
 unfolding holds_of
 adds_nothing holds p e = sym (ap (plus holds) (no_frame p.phase.held p.x.held p.y.held p.z.held e) ∙ plus_none holds)
 
@@ -60,50 +57,30 @@ pub record Lists : Type 0 where
 abbrev pub lists : List ℕ → List Float → List Float → List Float → List Float → Lists
 lists keys xs ys zs phases = record { keys = keys; xs = xs; ys = ys; zs = zs; phases = phases }
 
--- room for every frame
-pub record Room (size : ℕ) (l : Lists) : Type 0 where
-  pub keys_room : size ≤ length l.keys
-  pub xs_room : size ≤ length l.xs
-  pub ys_room : size ≤ length l.ys
-  pub zs_room : size ≤ length l.zs
-  pub phases_room : size ≤ length l.phases
-
 -- the walk after i frames
-pub record Walking (lp : Float) (start : Positions) (size : ℕ) (l₀ l : Lists) (s : Positions) (holds : Holds) (i : ℕ) : Type 0 where
-  pub room : Room size l₀
-  pub keys_long : length l.keys ≡ length l₀.keys
-  pub xs_long : length l.xs ≡ length l₀.xs
-  pub ys_long : length l.ys ≡ length l₀.ys
-  pub zs_long : length l.zs ≡ length l₀.zs
-  pub phases_long : length l.phases ≡ length l₀.phases
+pub record Walking (lp : Float) (start : Positions) (l₀ l : Lists) (s : Positions) (holds : Holds) (i : ℕ) : Type 0 where
   pub few : AtMost i holds
   pub state_is : s ≡ state_after (moved lp) i start
   pub holds_are : holds ≡ sum_of (moved lp) (holds_at lp) i start
-  pub keys_done : Filled (λ j. key_of (parts_at lp start j)) 0 l.keys i
-  pub xs_done : Filled (λ j. (parts_at lp start j).x.fraction) nan l.xs i
-  pub ys_done : Filled (λ j. (parts_at lp start j).y.fraction) nan l.ys i
-  pub zs_done : Filled (λ j. (parts_at lp start j).z.fraction) nan l.zs i
-  pub phases_done : Filled (λ j. (parts_at lp start j).phase.fraction) nan l.phases i
+  pub keys_are : Filling (λ j. key_of (parts_at lp start j)) 0 l₀.keys l.keys i
+  pub xs_are : Filling (λ j. (parts_at lp start j).x.fraction) nan l₀.xs l.xs i
+  pub ys_are : Filling (λ j. (parts_at lp start j).y.fraction) nan l₀.ys l.ys i
+  pub zs_are : Filling (λ j. (parts_at lp start j).z.fraction) nan l₀.zs l.zs i
+  pub phases_are : Filling (λ j. (parts_at lp start j).phase.fraction) nan l₀.phases l.phases i
 
-module _ (lp : Float) (start : Positions) (size : ℕ) (l₀ : Lists) where
-  pub begins : Room size l₀ → Walking lp start size l₀ l₀ start none 0
+module _ (lp : Float) (start : Positions) (l₀ : Lists) where
+  pub begins : Walking lp start l₀ l₀ start none 0
   unfolding state_after each_of total
-  begins r =
+  begins =
       record {
-        room = r;
-        keys_long = refl;
-        xs_long = refl;
-        ys_long = refl;
-        zs_long = refl;
-        phases_long = refl;
         few = most_none 0;
         state_is = refl;
         holds_are = refl;
-        keys_done = filled_none _ _ l₀.keys;
-        xs_done = filled_none _ _ l₀.xs;
-        ys_done = filled_none _ _ l₀.ys;
-        zs_done = filled_none _ _ l₀.zs;
-        phases_done = filled_none _ _ l₀.phases;
+        keys_are = filling_none _ _ l₀.keys;
+        xs_are = filling_none _ _ l₀.xs;
+        ys_are = filling_none _ _ l₀.ys;
+        zs_are = filling_none _ _ l₀.zs;
+        phases_are = filling_none _ _ l₀.phases;
       }
 
   module _ (l : Lists) (s : Positions) (holds : Holds) (i : ℕ) where
@@ -122,38 +99,30 @@ module _ (lp : Float) (start : Positions) (size : ℕ) (l₀ : Lists) where
           phases = set l.phases i here.phase.fraction;
         }
 
-    pub goes_on : i < size → Walking lp start size l₀ l s holds i → Walking lp start size l₀ filled (moved lp s) (plus holds (holds_of here)) (i + 1)
-    goes_on h w =
-        let r = w.room in
+    pub goes_on : i < length l₀.keys → i < length l₀.xs → i < length l₀.ys → i < length l₀.zs → i < length l₀.phases
+        → Walking lp start l₀ l s holds i → Walking lp start l₀ filled (moved lp s) (plus holds (holds_of here)) (i + 1)
+    goes_on hk hx hy hz hp w =
         let e : parts_of (moved lp s) ≡ parts_at lp start i = ap (λ (t : Positions). parts_of (moved lp t)) w.state_is in
         record {
-          room = r;
-          keys_long = length-set l.keys i _ ∙ w.keys_long;
-          xs_long = length-set l.xs i _ ∙ w.xs_long;
-          ys_long = length-set l.ys i _ ∙ w.ys_long;
-          zs_long = length-set l.zs i _ ∙ w.zs_long;
-          phases_long = length-set l.phases i _ ∙ w.phases_long;
           few = most_plus w.few (frame_most here);
           state_is = after_more (moved lp) i start s (moved lp s) refl w.state_is;
           holds_are = sum_more (moved lp) (holds_at lp) i start s holds (holds_of here) w.holds_are w.state_is refl;
-          keys_done = filled_more _ _ l.keys i _ (omega arith) (ap key_of e) w.keys_done;
-          xs_done = filled_more _ _ l.xs i _ (omega arith) (ap (λ (p : Parts). p.x.fraction) e) w.xs_done;
-          ys_done = filled_more _ _ l.ys i _ (omega arith) (ap (λ (p : Parts). p.y.fraction) e) w.ys_done;
-          zs_done = filled_more _ _ l.zs i _ (omega arith) (ap (λ (p : Parts). p.z.fraction) e) w.zs_done;
-          phases_done = filled_more _ _ l.phases i _ (omega arith) (ap (λ (p : Parts). p.phase.fraction) e) w.phases_done;
+          keys_are = filling_more _ _ l₀.keys l.keys i _ hk (ap key_of e) w.keys_are;
+          xs_are = filling_more _ _ l₀.xs l.xs i _ hx (ap (λ (p : Parts). p.x.fraction) e) w.xs_are;
+          ys_are = filling_more _ _ l₀.ys l.ys i _ hy (ap (λ (p : Parts). p.y.fraction) e) w.ys_are;
+          zs_are = filling_more _ _ l₀.zs l.zs i _ hz (ap (λ (p : Parts). p.z.fraction) e) w.zs_are;
+          phases_are = filling_more _ _ l₀.phases l.phases i _ hp (ap (λ (p : Parts). p.phase.fraction) e) w.phases_are;
         }
 
     -- after the last frame
-    pub ends : i ≡ size → Walking lp start size l₀ l s holds i
-        → WalkedBy lp start size (record { end = s; holds = holds }) l.keys l.xs l.ys l.zs l.phases
-    ends e w =
-        let v = subst (Walking lp start size l₀ l s holds) e w in
+    pub ends : Walking lp start l₀ l s holds i → WalkedBy lp start i (record { state = s; holds = holds }) l.keys l.xs l.ys l.zs l.phases
+    ends w =
         record {
-          end_is = v.state_is;
-          holds_are = v.holds_are;
-          keys_are = v.keys_done;
-          xs_are = v.xs_done;
-          ys_are = v.ys_done;
-          zs_are = v.zs_done;
-          phases_are = v.phases_done;
+          end_is = w.state_is;
+          holds_are = w.holds_are;
+          keys_are = w.keys_are.filled;
+          xs_are = w.xs_are.filled;
+          ys_are = w.ys_are.filled;
+          zs_are = w.zs_are.filled;
+          phases_are = w.phases_are.filled;
         }

@@ -4,13 +4,13 @@ use Rattle.std.specs.Float.{nan}
 use Rattle.words.specs.Binary32.{◌⊗◌}
 use Rattle.utils.specs.Interpolator.{stepped}
 use Rattle.utils.specs.Frames.{state_after, sum_of, Filled}
+use Rattle.utils.specs.declared.engine.Block.{Block}
 use Rattle.utils.specs.declared.parameter_interpolator.ParameterInterpolator.{ParameterInterpolator}
 use Rattle.oscillator.specs.Bank.{phase_top}
 use Rattle.oscillator.specs.Readings.{cutoff_of, differentiated}
 use Rattle.oscillator.specs.declared.wavetable_oscillator.Differentiator.{Differentiator}
 use Rattle.wavetable_engine.specs.declared.frames.Positions.{Positions}
 use Rattle.wavetable_engine.specs.declared.frames.Parts.{Parts}
-use Rattle.wavetable_engine.specs.declared.frames.Walked.{Walked}
 use Rattle.wavetable_engine.specs.Wavetable.{x_top, y_top, z_top, moved, parts_of, holds_of, gain_of}
 
 -- ---- the walk: where each frame reads
@@ -31,8 +31,8 @@ abbrev pub parts_at : Float → Positions → ℕ → Parts
 parts_at lp start j = parts_of (moved lp (state_after (moved lp) j start))
 
 -- The walk through `size` frames.
-pub record WalkedBy (lp : Float) (start : Positions) (size : ℕ) (r : Walked) (keys : List ℕ) (xs ys zs phases : List Float) : Type 0 where
-  pub end_is : r.end ≡ state_after (moved lp) size start
+pub record WalkedBy (lp : Float) (start : Positions) (size : ℕ) (r : Block Positions) (keys : List ℕ) (xs ys zs phases : List Float) : Type 0 where
+  pub end_is : r.state ≡ state_after (moved lp) size start
   pub holds_are : r.holds ≡ sum_of (moved lp) (λ s. holds_of (parts_of (moved lp s))) size start
   pub keys_are : Filled (λ j. key_of (parts_at lp start j)) 0 keys size
   pub xs_are : Filled (λ j. (parts_at lp start j).x.fraction) nan xs size

@@ -1,16 +1,17 @@
 // What goes from frame to frame: the positions, the differentiator, and the words.
+// Each stage asks that `size` be at most 128 frames: a type of its own for that number would be no plainer than the one clause.
 ghost use Rattle.std.specs.Prelude.{◌≡◌, ◌||◌, ◌≤◌, length, get_or};
 ghost use Rattle.std.specs.Float.{nan, binary32};
 ghost use Rattle.std.specs.Float.Ieee.{to_bits};
 ghost use Rattle.utils.specs.Holds.{plus, AtMost, most_count};
 ghost use Rattle.utils.specs.Frames.{Filled};
-ghost use Rattle.utils.specs.Rendered.{most_frames};
+ghost use Rattle.utils.specs.Rendered.{most_frames, Places};
 ghost use Rattle.wavetable_engine.specs.Wavetable.{moved, parts_of, holds_of, gain_of, lofi};
 ghost use Rattle.wavetable_engine.specs.Stages.{PartsFit, key_of, WalkedBy, sample_of, differentiating};
 
 use oscillator::bank::TABLE_SIZE_F;
 use oscillator::wavetable_oscillator::{Differentiator, advance, cutoff};
-use utils::engine::RUN_LENGTH;
+use utils::engine::{Block, MOST_FRAMES, RUN_LENGTH};
 use utils::holds::Holds;
 use utils::parameter_interpolator::ParameterInterpolator;
 use words::Part;
@@ -37,66 +38,65 @@ pub struct Parts {
     pub phase: Part,
 }
 
-// The positions after a block, and what its frames held.
-#[derive(Clone, Copy)]
-pub struct Walked {
-    pub end: Positions,
-    pub holds: Holds,
-}
-
-// The positions one frame on.
-fn next(s: Positions, lp_coefficient: f32) -> Positions
-    ensures { result ≡ moved lp_coefficient s }
-{
-    let f0_modulation = s.f0_modulation.next();
-    let x_modulation = s.x_modulation.next();
-    let y_modulation = s.y_modulation.next();
-    let z_modulation = s.z_modulation.next();
-    Positions {
-        phase: advance(s.phase, f0_modulation.value),
-        x_lp: utils::one_pole(s.x_lp, x_modulation.value, lp_coefficient),
-        y_lp: utils::one_pole(s.y_lp, y_modulation.value, lp_coefficient),
-        z_lp: utils::one_pole(s.z_lp, z_modulation.value, lp_coefficient),
-        x_modulation,
-        y_modulation,
-        z_modulation,
-        f0_modulation,
+impl Positions {
+    // The positions one frame on.
+    #[tactic(auto, unfolding(crate::specs::Wavetable::moved))]
+    fn next(self, lp_coefficient: f32) -> Positions
+        ensures { result ≡ moved lp_coefficient self }
+    {
+        let f0_modulation = self.f0_modulation.next();
+        let x_modulation = self.x_modulation.next();
+        let y_modulation = self.y_modulation.next();
+        let z_modulation = self.z_modulation.next();
+        Positions {
+            phase: advance(self.phase, f0_modulation.value),
+            x_lp: utils::one_pole(self.x_lp, x_modulation.value, lp_coefficient),
+            y_lp: utils::one_pole(self.y_lp, y_modulation.value, lp_coefficient),
+            z_lp: utils::one_pole(self.z_lp, z_modulation.value, lp_coefficient),
+            x_modulation,
+            y_modulation,
+            z_modulation,
+            f0_modulation,
+        }
     }
-}
 
-// Where a frame reads.
-fn parts_of(s: Positions) -> Parts
-    ensures { result ≡ parts_of s }
-{
-    Parts {
-        x: words::held_part(s.x_lp, crate::WavetableEngine::X_TOP),
-        y: words::held_part(s.y_lp, crate::WavetableEngine::Y_TOP),
-        z: words::held_part(s.z_lp, crate::WavetableEngine::Z_TOP),
-        phase: words::held_part(s.phase * TABLE_SIZE_F, crate::WavetableEngine::PHASE_TOP),
+    // Where a frame reads.
+    #[tactic(auto, using(oscillator::proofs::Sizes::period_float), unfolding(words::specs::Binary32::of_bits, words::specs::Binary32::decimal, crate::specs::Wavetable::parts_of))]
+    fn parts(self) -> Parts
+        ensures { result ≡ parts_of self }
+    {
+        Parts {
+            x: words::held_part(self.x_lp, crate::WavetableEngine::X_TOP),
+            y: words::held_part(self.y_lp, crate::WavetableEngine::Y_TOP),
+            z: words::held_part(self.z_lp, crate::WavetableEngine::Z_TOP),
+            phase: words::held_part(self.phase * TABLE_SIZE_F, crate::WavetableEngine::PHASE_TOP),
+        }
     }
 }
 
-// What a frame holds: phase, wave position and level.
-fn held(p: Parts) -> Holds
-    ensures { result ≡ holds_of p }
-{
-    utils::holds::of_frame(p.phase.held, p.x.held | p.y.held, p.z.held)
-}
+impl Parts {
+    // What a frame holds: phase, wave position and level.
+    #[tactic(auto, unfolding(crate::specs::Wavetable::holds_of))]
+    fn held(self) -> Holds
+        ensures { result ≡ holds_of self }
+    {
+        utils::holds::of_frame(self.phase.held, self.x.held | self.y.held, self.z.held)
+    }
 
-// Whether a frame holds anything: test by test, which costs less than one sum of all four, since nearly every frame fails all.
-fn any_held(p: Parts) -> bool
-    ensures { result ≡ (p.phase.held || (p.x.held || (p.y.held || p.z.held))) }
-{
-    if p.phase.held {
-        return true;
+    // Whether a frame holds anything: test by test, which costs less than one sum of all four, since nearly every frame fails all.
+    fn any_held(self) -> bool
+        ensures { result ≡ (self.phase.held || self.x.held || self.y.held || self.z.held) }
+    {
+        self.phase.held || self.x.held || self.y.held || self.z.held
     }
-    if p.x.held {
-        return true;
+
+    // The four whole parts in one number.
+    fn key(self) -> u32
+        requires { PartsFit self }
+        ensures { result ≡ key_of self }
+    {
+        (self.x.whole + self.y.whole * 8 + self.z.whole * 64 + self.phase.whole * 512) as u32
     }
-    if p.y.held {
-        return true;
-    }
-    p.z.held
 }
 
 // The holds of the frames before, and those of a frame. Nearly every frame holds nothing; then nothing is added, for speed.
@@ -104,53 +104,44 @@ fn with_held(holds: Holds, p: Parts) -> Holds
     requires { AtMost most_count (plus holds (holds_of p)) }
     ensures { result ≡ plus holds (holds_of p) }
 {
-    if any_held(p) {
-        return utils::holds::plus(holds, held(p));
+    if p.any_held() {
+        holds + p.held()
+    } else {
+        holds
     }
-    holds
 }
 
-// The four whole parts in one number.
-fn key(p: Parts) -> u32
-    requires { PartsFit p }
-    ensures { result ≡ key_of p }
-{
-    (p.x.whole + p.y.whole * 8 + p.z.whole * 64 + p.phase.whole * 512) as u32
-}
-
-// Where `size` frames read: the whole parts of each in one number, and the four fractions.
+// Where `size` frames read: the whole parts of each in one number, and the four fractions. Each goes into an array of its own, since the loops that read them vectorise.
 pub fn walk(
     start: Positions,
     lp_coefficient: f32,
     size: usize,
-    keys: &mut [u32],
-    xs: &mut [f32],
-    ys: &mut [f32],
-    zs: &mut [f32],
-    phases: &mut [f32],
-) -> Walked
-    requires size_le_most_frames { (size ≤ most_frames) × (size ≤ length keys.old) }
-    requires size_in_bounds { (size ≤ length xs.old) × ((size ≤ length ys.old) × ((size ≤ length zs.old) × (size ≤ length phases.old))) }
+    keys: &mut [u32; MOST_FRAMES],
+    xs: &mut [f32; RUN_LENGTH],
+    ys: &mut [f32; RUN_LENGTH],
+    zs: &mut [f32; RUN_LENGTH],
+    phases: &mut [f32; RUN_LENGTH],
+) -> Block<Positions>
+    requires { size ≤ most_frames }
     ensures { WalkedBy lp_coefficient start size result keys.new xs.new ys.new zs.new phases.new }
 {
     let mut s = start;
-    let mut holds = utils::holds::none();
-    let mut i = 0;
-    while i < size {
-        s = next(s, lp_coefficient);
-        let p = parts_of(s);
-        keys[i] = key(p);
+    let mut holds = Holds::default();
+    for i in 0..size {
+        s = s.next(lp_coefficient);
+        let p = s.parts();
+        keys[i] = p.key();
         xs[i] = p.x.fraction;
         ys[i] = p.y.fraction;
         zs[i] = p.z.fraction;
         phases[i] = p.phase.fraction;
         holds = with_held(holds, p);
-        i += 1;
     }
-    Walked { end: s, holds }
+    Block { state: s, holds }
 }
 
 // What makes up for the integration of the waves.
+#[tactic(auto, unfolding(words::specs::Binary32::of_bits, words::specs::Binary32::decimal, crate::specs::Wavetable::gain_of))]
 fn gain(f0: f32) -> f32
     ensures { result ≡ gain_of f0 }
 {
@@ -163,26 +154,25 @@ pub fn differentiate_all(
     f0: ParameterInterpolator,
     size: usize,
     mixes: &[f32; RUN_LENGTH],
-    samples: &mut [f32],
+    samples: &mut [f32; RUN_LENGTH],
 ) -> Differentiator
-    requires { (size ≤ most_frames) × (size ≤ length samples.old) }
+    requires { size ≤ most_frames }
     ensures value { result ≡ (differentiating mixes.now size (record { diff_out = diff_out; f0 = f0 })).diff_out }
     ensures filled { Filled (λ j. sample_of (get_or mixes.now j nan) (differentiating mixes.now j (record { diff_out = diff_out; f0 = f0 }))) nan samples.new size }
 {
     let mut d = diff_out;
     let mut f = f0;
-    let mut i = 0;
-    while i < size {
+    for i in 0..size {
         f = f.next();
         let s = d.process(cutoff(f.value), mixes[i]);
         samples[i] = s.sample * gain(f.value);
         d = s.next;
-        i += 1;
     }
     d
 }
 
 // A sample in 5 bits.
+#[tactic(auto, unfolding(words::specs::Binary32::of_bits, words::specs::Binary32::decimal, crate::specs::Wavetable::lofi))]
 fn lofi(x: f32) -> f32
     ensures { result ≡ lofi x }
 {
@@ -191,15 +181,13 @@ fn lofi(x: f32) -> f32
 
 // The samples as words, and again in 5 bits.
 pub fn words_all(samples: &[f32; RUN_LENGTH], out: &mut [u32], aux: &mut [u32])
-    requires { (length out.old ≤ most_frames) × (length aux.old ≡ length out.old) }
+    requires { Places out.old aux.old }
     ensures filled { Filled (λ j. to_bits binary32 (get_or samples.now j nan)) 0 out.new (length out.old) }
     ensures filled_2 { Filled (λ j. to_bits binary32 (lofi (get_or samples.now j nan))) 0 aux.new (length out.old) }
 {
-    let mut i = 0;
-    while i < out.len() {
+    for i in 0..out.len() {
         let x = samples[i];
         out[i] = words::to_word(x);
         aux[i] = words::to_word(lofi(x));
-        i += 1;
     }
 }

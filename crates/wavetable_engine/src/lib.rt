@@ -16,10 +16,11 @@ ghost use Rattle.utils.specs.Rendered.{Places, Renders};
 ghost use Rattle.oscillator.specs.Bank.{bank_length};
 ghost use Rattle.wavetable_engine.specs.Wavetable.{fresh, clamp_by, quantised, set_up, rendered};
 
+use oscillator::bank::BANK_LENGTH;
 use oscillator::wavetable_oscillator::Differentiator;
-use utils::engine::{CORNERS_LENGTH, EngineParameters, MOST_FRAMES, RUN_LENGTH};
-use utils::holds::Holds;
+use utils::engine::{Block, EngineParameters, Workspace};
 use utils::parameter_interpolator::ParameterInterpolator;
+use utils::units::PitchRatios;
 
 mod frames;
 
@@ -40,13 +41,6 @@ pub struct WavetableEngine {
     pub diff_out: Differentiator,
 }
 
-// The state after a block, and what its frames held.
-#[derive(Clone, Copy)]
-pub struct Block {
-    pub state: WavetableEngine,
-    pub holds: Holds,
-}
-
 // What a block works out before its frames.
 #[derive(Clone, Copy)]
 pub struct SetUp {
@@ -58,6 +52,7 @@ pub struct SetUp {
 }
 
 // x, made steeper around 0.5 and held between 0 and 1.
+#[tactic(auto, unfolding(words::specs::Binary32::of_bits, words::specs::Binary32::decimal))]
 fn clamp(x: f32, amount: f32) -> f32
     ensures { result ≡ clamp_by x amount }
 {
@@ -65,6 +60,7 @@ fn clamp(x: f32, amount: f32) -> f32
 }
 
 // A position, drawn towards a whole number by the quantization.
+#[tactic(auto, unfolding(words::specs::Binary32::of_bits, words::specs::Binary32::decimal, crate::specs::Wavetable::quantised))]
 fn quantise(x: f32, quantization: f32) -> f32
     ensures { result ≡ quantised x quantization }
 {
@@ -85,6 +81,7 @@ impl WavetableEngine {
     pub const Z_TOP: usize = 6;
 
     // The fresh state. `a0_normalized` is 55 divided by the rate.
+    #[tactic(auto, unfolding(words::specs::Binary32::of_bits, words::specs::Binary32::decimal))]
     pub fn init(a0_normalized: f32) -> WavetableEngine
         ensures { result ≡ fresh a0_normalized }
     {
@@ -108,18 +105,12 @@ impl WavetableEngine {
     }
 
     // What a block of `size` frames works out before them.
-    fn set_up(
-        self,
-        parameters: EngineParameters,
-        high: &[f32; 256],
-        low: &[f32; 256],
-        size: usize,
-    ) -> SetUp
-        ensures { result ≡ set_up high.now low.now size parameters self }
+    #[tactic(auto, unfolding(words::specs::Binary32::of_bits, words::specs::Binary32::decimal, crate::specs::Wavetable::set_up))]
+    fn set_up(self, parameters: EngineParameters, ratios: &PitchRatios, size: usize) -> SetUp
+        ensures { result ≡ set_up ratios.now.high ratios.now.low size parameters self }
     {
         let f0 = utils::engine::note_to_frequency(
-            high,
-            low,
+            ratios,
             parameters.note,
             parameters.a0_normalized,
         );
@@ -166,46 +157,48 @@ impl WavetableEngine {
         self,
         parameters: EngineParameters,
         bank: &[i16],
-        high: &[f32; 256],
-        low: &[f32; 256],
-        keys: &mut [u32; MOST_FRAMES],
-        run_1: &mut [f32; RUN_LENGTH],
-        run_2: &mut [f32; RUN_LENGTH],
-        run_3: &mut [f32; RUN_LENGTH],
-        run_4: &mut [f32; RUN_LENGTH],
-        corners: &mut [f32; CORNERS_LENGTH],
+        ratios: &PitchRatios,
+        work: &mut Workspace,
         out: &mut [u32],
         aux: &mut [u32],
-    ) -> Block
+    ) -> Block<WavetableEngine>
         requires bank_len { length bank.now ≡ bank_length }
         requires places { Places out.old aux.old }
-        ensures { Renders (rendered bank.now high.now low.now (length out.old) parameters self)
+        ensures { Renders (rendered bank.now ratios.now.high ratios.now.low (length out.old) parameters self)
             (length out.old) result.state result.holds out.new aux.new }
     {
+        let bank = <&[i16; BANK_LENGTH]>::try_from(bank).unwrap();
         let size = out.len();
-        let m = self.set_up(parameters, high, low, size);
+        let m = self.set_up(parameters, ratios, size);
         let start = m.start;
         let w = frames::walk(
             start,
             m.lp_coefficient,
             size,
-            keys,
-            run_1,
-            run_2,
-            run_3,
-            run_4,
+            &mut work.keys,
+            &mut work.run_1,
+            &mut work.run_2,
+            &mut work.run_3,
+            &mut work.run_4,
         );
-        waves::read_all(bank, size, keys, run_4, corners);
-        waves::fold_all(size, run_1, run_2, run_3, corners, run_4);
+        waves::read_all(bank, size, &work.keys, &work.run_4, &mut work.corners);
+        waves::fold_all(
+            size,
+            &work.run_1,
+            &work.run_2,
+            &work.run_3,
+            &work.corners,
+            &mut work.run_4,
+        );
         let diff_out = frames::differentiate_all(
             self.diff_out,
             start.f0_modulation,
             size,
-            run_4,
-            run_1,
+            &work.run_4,
+            &mut work.run_1,
         );
-        frames::words_all(run_1, out, aux);
-        let end = w.end;
+        frames::words_all(&work.run_1, out, aux);
+        let end = w.state;
         let holds = w.holds;
         Block {
             state: WavetableEngine {

@@ -1,7 +1,7 @@
 -- Values as a joint check of the definitions: how far the waveform goes, and the first number that is held.
-use mathlib.Core.Path.{◌≡◌, refl}
-use mathlib.Core.Bool.{true}
-use lib.Ieee.{binary32, of_int, round, sub, to_bits, to_unsigned}
+use Rattle.std.proofs.Common.{◌≡◌, refl, true}
+use lib.Ieee.{of_int, round, sub, to_bits, to_unsigned}
+use Rattle.std.specs.Float.{binary32}
 use Rattle.words.specs.Binary32.{◌⊖◌, decimal, of_count}
 use Rattle.words.specs.Parts.{part_of}
 use Rattle.wavetable_oscillator.specs.Oscillator.{num_waves, waveform_top}

@@ -1,15 +1,11 @@
 -- The three loops that carry something go on: what they carry and the lists that they fill are those of one more frame.
-use mathlib.Core.Path.{◌≡◌, refl, ap, ◌∙◌, subst}
-use mathlib.Core.Bool.{Bool, true, false, ◌||◌}
-use mathlib.Core.List.{List}
-use Prim.Native.Nat.{ℕ, suc, ◌+◌, ◌<◌}
-use native.Mathlib.Numerals.{add-one}
-use lib.ListN.{length, set}
-use lib.Ieee.{Float, nan}
+use Rattle.std.proofs.Common.{◌≡◌, refl, ap, ◌∙◌, subst, Bool, true, false, ◌||◌, List, ℕ, suc, ◌+◌, ◌<◌, add-one, length, set, Float}
+use Rattle.std.specs.Float.{nan}
 use Rattle.words.specs.Binary32.{◌⊗◌}
 use Rattle.words.specs.Parts.{part_of}
 use Rattle.words.specs.declared.Part.{Part}
-use Rattle.utils.specs.Holds.{once, of_frame, plus, AtMost}
+use Rattle.std.specs.Int.{from_bool}
+use Rattle.utils.specs.Holds.{of_frame, plus, AtMost}
 use Rattle.utils.specs.Frames.{state_after, sum_of}
 use Rattle.utils.specs.declared.holds.Holds.{Holds}
 use Rattle.utils.proofs.Sums.{most_none, most_frame, most_plus}
@@ -80,9 +76,10 @@ abbrev pub holds_by : ℕ → ℕ → ℕ → Holds
 holds_by held phases waveforms = record { held = held; phase = phases; wave_position = waveforms; level = 0; map = 0; bank = 0 }
 
 counted : (held phases waveforms : ℕ) (p w : Bool)
-    → holds_by (held + once (p || w)) (phases + once p) (waveforms + once w) ≡ plus (holds_by held phases waveforms) (of_frame p w false)
+    → holds_by (held + from_bool (p || w)) (phases + from_bool p) (waveforms + from_bool w) ≡ plus (holds_by held phases waveforms) (of_frame p w false)
 unfolding plus of_frame
-counted held phases waveforms true w = refl
+counted held phases waveforms true true = refl
+counted held phases waveforms true false = refl
 counted held phases waveforms false true = refl
 counted held phases waveforms false false = refl
 
@@ -115,7 +112,7 @@ module _ (phases₀ waveforms₀ : List Float) (keys₀ : List ℕ) where
     pub part_goes_on : i < length phases₀ → i < length waveforms₀ → i < length keys₀
         → Parting phases₀ waveforms₀ keys₀ phases waveforms keys (holds_by held held_phases held_waveforms) i
         → Parting phases₀ waveforms₀ keys₀ (set phases i phase.fraction) (set waveforms i waveform.fraction) (set keys i (key_of waveform phase))
-        (holds_by (held + once (phase.held || waveform.held)) (held_phases + once phase.held) (held_waveforms + once waveform.held)) (i + 1)
+        (holds_by (held + from_bool (phase.held || waveform.held)) (held_phases + from_bool phase.held) (held_waveforms + from_bool waveform.held)) (i + 1)
     part_goes_on hp hw hk g =
         let p : phase ≡ part_at phase_top phases₀ i = ap (part_of phase_top) (filling_next _ _ phases₀ phases i g.phases_are) in
         let w : waveform ≡ part_at waveform_top waveforms₀ i = ap (part_of waveform_top) (filling_next _ _ waveforms₀ waveforms i g.waveforms_are) in

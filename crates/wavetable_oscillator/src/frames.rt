@@ -1,17 +1,17 @@
 // What goes from frame to frame: the positions, the filters, and the words.
+// Each stage asks that `size` be at most 128 frames: a type of its own for that number would be no plainer than the one clause.
 ghost use Rattle.std.specs.Prelude.{◌≡◌, ◌+◌, ◌*◌, ◌≤◌, length, get_or};
 ghost use Rattle.std.specs.Float.{nan, binary32};
 ghost use Rattle.std.specs.Float.Ieee.{to_bits};
 ghost use Rattle.words.specs.Binary32.{decimal};
-ghost use Rattle.utils.specs.Holds.{once};
 ghost use Rattle.utils.specs.Frames.{Filled};
-ghost use Rattle.utils.specs.Rendered.{most_frames};
-ghost use Rattle.oscillator.specs.Bank.{bank_length, wave_length, phase_top};
+ghost use Rattle.utils.specs.Rendered.{most_frames, Places};
+ghost use Rattle.oscillator.specs.Bank.{wave_length, phase_top};
 ghost use Rattle.wavetable_oscillator.specs.Oscillator.{waveform_top, moved, filtered, sample_of};
 ghost use Rattle.wavetable_oscillator.specs.Stages.{WalkedBy, PartedBy, reading_at, KeysFit, FilteredBy};
 
-use oscillator::bank::{TABLE_SIZE_F, WAVE_LENGTH};
-use oscillator::wavetable_oscillator::{Differentiator, advance, cutoff, interpolate_wave_i16};
+use oscillator::bank::{BANK_LENGTH, TABLE_SIZE_F, WAVE_LENGTH};
+use oscillator::wavetable_oscillator::{Differentiator, advance, cutoff, interpolate_wave};
 use utils::engine::{CORNERS_LENGTH, MOST_FRAMES, RUN_LENGTH};
 use utils::holds::Holds;
 use utils::parameter_interpolator::ParameterInterpolator;
@@ -35,52 +35,45 @@ pub struct Filters {
     pub differentiator: Differentiator,
 }
 
-// The positions one frame on.
-fn next(s: Positions) -> Positions
-    ensures { result ≡ moved s }
-{
-    let frequency_modulation = s.frequency_modulation.next();
-    let amplitude_modulation = s.amplitude_modulation.next();
-    let waveform_modulation = s.waveform_modulation.next();
-    Positions {
-        phase: advance(s.phase, frequency_modulation.value),
-        frequency_modulation,
-        amplitude_modulation,
-        waveform_modulation,
+impl Positions {
+    // The positions one frame on.
+    #[tactic(auto, unfolding(crate::specs::Oscillator::moved))]
+    fn next(self) -> Positions
+        ensures { result ≡ moved self }
+    {
+        let frequency_modulation = self.frequency_modulation.next();
+        let amplitude_modulation = self.amplitude_modulation.next();
+        let waveform_modulation = self.waveform_modulation.next();
+        Positions {
+            phase: advance(self.phase, frequency_modulation.value),
+            frequency_modulation,
+            amplitude_modulation,
+            waveform_modulation,
+        }
     }
 }
 
-// The positions of `size` frames: the phase in samples of a wave, the waveform, the filters' coefficient and the amplitude of each.
+// The positions of `size` frames: the phase in samples of a wave, the waveform, the filters' coefficient and the amplitude of each. Each goes into an array of its own, since the loops that read them vectorise.
 pub fn walk(
     start: Positions,
     size: usize,
-    phases: &mut [f32],
-    waveforms: &mut [f32],
-    cutoffs: &mut [f32],
-    amplitudes: &mut [f32],
+    phases: &mut [f32; RUN_LENGTH],
+    waveforms: &mut [f32; RUN_LENGTH],
+    cutoffs: &mut [f32; RUN_LENGTH],
+    amplitudes: &mut [f32; RUN_LENGTH],
 ) -> Positions
-    requires { (size ≤ length phases.old) × ((size ≤ length waveforms.old) × ((size ≤ length cutoffs.old) × (size ≤ length amplitudes.old))) }
+    requires { size ≤ most_frames }
     ensures { WalkedBy start size result phases.new waveforms.new cutoffs.new amplitudes.new }
 {
     let mut s = start;
-    let mut i = 0;
-    while i < size {
-        s = next(s);
+    for i in 0..size {
+        s = s.next();
         phases[i] = s.phase * TABLE_SIZE_F;
         waveforms[i] = s.waveform_modulation.value;
         cutoffs[i] = cutoff(s.frequency_modulation.value);
         amplitudes[i] = s.amplitude_modulation.value;
-        i += 1;
     }
     s
-}
-
-// 1 where something was held.
-fn count(held: bool) -> u32
-    ensures value { result ≡ once held }
-    ensures upper_bound { result ≤ 1 }
-{
-    if held { 1 } else { 0 }
 }
 
 // Where the bank is read at a whole phase of a wave.
@@ -92,24 +85,28 @@ fn key(wave: usize, phase: usize) -> u32
 }
 
 // Where `size` frames read, by their phases and waveforms, in whose places their fractions are left.
-pub fn part_all(size: usize, phases: &mut [f32], waveforms: &mut [f32], keys: &mut [u32]) -> Holds
-    requires { (size ≤ most_frames) × ((size ≤ length phases.old) × ((size ≤ length waveforms.old) × (size ≤ length keys.old))) }
+pub fn part_all(
+    size: usize,
+    phases: &mut [f32; RUN_LENGTH],
+    waveforms: &mut [f32; RUN_LENGTH],
+    keys: &mut [u32; MOST_FRAMES],
+) -> Holds
+    requires { size ≤ most_frames }
     ensures { PartedBy phases.old waveforms.old size result phases.new waveforms.new keys.new }
 {
+    // The counts are u32: counts of 64 bits, as Holds has them, make the loop slower.
     let mut held = 0;
     let mut held_phases = 0;
     let mut held_waveforms = 0;
-    let mut i = 0;
-    while i < size {
+    for i in 0..size {
         let w = words::held_part(waveforms[i], crate::WavetableOscillator::WAVEFORM_TOP);
         let p = words::held_part(phases[i], crate::WavetableOscillator::PHASE_TOP);
         keys[i] = key(w.whole, p.whole);
         waveforms[i] = w.fraction;
         phases[i] = p.fraction;
-        held += count(p.held | w.held);
-        held_phases += count(p.held);
-        held_waveforms += count(w.held);
-        i += 1;
+        held += u32::from(p.held | w.held);
+        held_phases += u32::from(p.held);
+        held_waveforms += u32::from(w.held);
     }
     Holds {
         held: held as usize,
@@ -122,18 +119,19 @@ pub fn part_all(size: usize, phases: &mut [f32], waveforms: &mut [f32], keys: &m
 }
 
 // A frame's reading: two waves at a phase, and between them by the waveform's fraction.
-fn read(bank: &[i16], key: usize, p_fractional: f32, waveform_fractional: f32) -> f32
-    requires bank_len { length bank.now ≡ bank_length }
-    requires key_bound { key ≤ waveform_top * wave_length + phase_top }
+#[tactic(auto, unfolding(words::specs::Binary32::of_bits, words::specs::Binary32::decimal, crate::specs::Stages::reading_at))]
+fn read(bank: &[i16; BANK_LENGTH], key: usize, p_fractional: f32, waveform_fractional: f32) -> f32
+    requires { key ≤ waveform_top * wave_length + phase_top }
     ensures { result ≡ reading_at bank.now key p_fractional waveform_fractional }
 {
-    let x0 = interpolate_wave_i16(bank, key, p_fractional);
-    let x1 = interpolate_wave_i16(bank, key + WAVE_LENGTH, p_fractional);
+    let x0 = interpolate_wave(bank, key, p_fractional);
+    let x1 = interpolate_wave(bank, key + WAVE_LENGTH, p_fractional);
     (x0 + (x1 - x0) * waveform_fractional) * SCALE
 }
 
 impl Filters {
     // The filters one frame on.
+    #[tactic(auto, unfolding(crate::specs::Oscillator::filtered))]
     fn next(self, cutoff: f32, x: f32) -> Filters
         ensures { result ≡ filtered cutoff x self }
     {
@@ -149,26 +147,23 @@ impl Filters {
 // The readings of `size` frames, filtered.
 pub fn filter_all(
     start: Filters,
-    bank: &[i16],
+    bank: &[i16; BANK_LENGTH],
     size: usize,
     keys: &[u32; MOST_FRAMES],
     phases: &[f32; RUN_LENGTH],
     waveforms: &[f32; RUN_LENGTH],
     cutoffs: &[f32; RUN_LENGTH],
-    lps: &mut [f32],
+    lps: &mut [f32; CORNERS_LENGTH],
 ) -> Filters
-    requires bank_len { length bank.now ≡ bank_length }
-    requires size_le_most_frames { (size ≤ most_frames) × (size ≤ length lps.old) }
+    requires few_frames { size ≤ most_frames }
     requires keys_fit { KeysFit keys.now size }
     ensures { FilteredBy bank.now keys.now phases.now waveforms.now cutoffs.now start size result lps.new }
 {
     let mut f = start;
-    let mut i = 0;
-    while i < size {
+    for i in 0..size {
         let x = read(bank, keys[i] as usize, phases[i], waveforms[i]);
         f = f.next(cutoffs[i], x);
         lps[i] = f.lp;
-        i += 1;
     }
     f
 }
@@ -180,14 +175,12 @@ pub fn words_all(
     out: &mut [u32],
     aux: &mut [u32],
 )
-    requires { (length out.old ≤ most_frames) × (length aux.old ≡ length out.old) }
+    requires { Places out.old aux.old }
     ensures filled { Filled (λ j. to_bits binary32 (sample_of (get_or amplitudes.now j nan) (get_or lps.now j nan))) 0 out.new (length out.old) }
     ensures filled_2 { Filled (λ j. to_bits binary32 (decimal 0 0)) 0 aux.new (length out.old) }
 {
-    let mut i = 0;
-    while i < out.len() {
+    for i in 0..out.len() {
         out[i] = words::to_word(0.0 + amplitudes[i] * lps[i]);
         aux[i] = 0;
-        i += 1;
     }
 }

@@ -14,10 +14,11 @@ ghost use Rattle.utils.specs.Rendered.{Places, Renders};
 ghost use Rattle.oscillator.specs.Bank.{bank_length};
 ghost use Rattle.wavetable_oscillator.specs.Oscillator.{targets_of, begun, rendered, fresh};
 
+use oscillator::bank::BANK_LENGTH;
 use oscillator::wavetable_oscillator::Differentiator;
-use utils::engine::{CORNERS_LENGTH, EngineParameters, MOST_FRAMES, RUN_LENGTH};
-use utils::holds::Holds;
+use utils::engine::{Block, EngineParameters, Workspace};
 use utils::parameter_interpolator::ParameterInterpolator;
+use utils::units::PitchRatios;
 
 mod frames;
 
@@ -40,13 +41,6 @@ pub struct WavetableOscillator {
     pub differentiator: Differentiator,
 }
 
-// The state after a block, and what its frames held.
-#[derive(Clone, Copy)]
-pub struct Block {
-    pub state: WavetableOscillator,
-    pub holds: Holds,
-}
-
 // Where a block's parameters go to.
 #[derive(Clone, Copy)]
 pub struct Targets {
@@ -56,10 +50,10 @@ pub struct Targets {
 }
 
 // The same by a row's parameters: amplitude 1, attenuated towards high frequencies, with the scale of the readings approximated in it.
-fn targets_of(parameters: EngineParameters, high: &[f32; 256], low: &[f32; 256]) -> Targets
-    ensures { result ≡ targets_of high.now low.now parameters }
+fn targets_of(parameters: EngineParameters, ratios: &PitchRatios) -> Targets
+    ensures { result ≡ targets_of ratios.now.high ratios.now.low parameters }
 {
-    let f0 = utils::engine::note_to_frequency(high, low, parameters.note, parameters.a0_normalized);
+    let f0 = utils::engine::note_to_frequency(ratios, parameters.note, parameters.a0_normalized);
     let frequency = utils::clamp(f0, 0.0000001, MAX_FREQUENCY);
 
     Targets {
@@ -75,7 +69,8 @@ impl WavetableOscillator {
 
     pub const PHASE_TOP: usize = oscillator::bank::PHASE_TOP;
 
-    // The fresh state.
+    // The fresh state: zeros, each field by its name as the equation has it.
+    #[tactic(auto, unfolding(words::specs::Binary32::of_bits, words::specs::Binary32::decimal))]
     pub fn init() -> WavetableOscillator
         ensures { result ≡ fresh }
     {
@@ -93,6 +88,7 @@ impl WavetableOscillator {
     }
 
     // What the first of `size` frames begins with.
+    #[tactic(auto, unfolding(crate::specs::Oscillator::begun))]
     fn begin(self, targets: Targets, size: usize) -> frames::Positions
         ensures { result ≡ begun size targets self }
     {
@@ -117,35 +113,46 @@ impl WavetableOscillator {
         self,
         parameters: EngineParameters,
         bank: &[i16],
-        high: &[f32; 256],
-        low: &[f32; 256],
-        keys: &mut [u32; MOST_FRAMES],
-        run_1: &mut [f32; RUN_LENGTH],
-        run_2: &mut [f32; RUN_LENGTH],
-        run_3: &mut [f32; RUN_LENGTH],
-        run_4: &mut [f32; RUN_LENGTH],
-        corners: &mut [f32; CORNERS_LENGTH],
+        ratios: &PitchRatios,
+        work: &mut Workspace,
         out: &mut [u32],
         aux: &mut [u32],
-    ) -> Block
+    ) -> Block<WavetableOscillator>
         requires bank_len { length bank.now ≡ bank_length }
         requires places { Places out.old aux.old }
-        ensures { Renders (rendered bank.now high.now low.now (length out.old) parameters self)
+        ensures { Renders (rendered bank.now ratios.now.high ratios.now.low (length out.old) parameters self)
             (length out.old) result.state result.holds out.new aux.new }
     {
         // The runs hold phases, waveforms, coefficients and amplitudes, the corners the filtered readings.
+        let bank = <&[i16; BANK_LENGTH]>::try_from(bank).unwrap();
         let size = out.len();
-        let targets = targets_of(parameters, high, low);
+        let targets = targets_of(parameters, ratios);
         let start = self.begin(targets, size);
-        let end = frames::walk(start, size, run_1, run_2, run_3, run_4);
-        let holds = frames::part_all(size, run_1, run_2, keys);
+        let end = frames::walk(
+            start,
+            size,
+            &mut work.run_1,
+            &mut work.run_2,
+            &mut work.run_3,
+            &mut work.run_4,
+        );
+        let holds = frames::part_all(size, &mut work.run_1, &mut work.run_2, &mut work.keys);
         let differentiator = self.differentiator;
         let filters = frames::Filters {
             lp: self.lp,
             differentiator,
         };
-        let last = frames::filter_all(filters, bank, size, keys, run_1, run_2, run_3, corners);
-        frames::words_all(run_4, corners, out, aux);
+        let last = frames::filter_all(
+            filters,
+            bank,
+            size,
+            &work.keys,
+            &work.run_1,
+            &work.run_2,
+            &work.run_3,
+            &mut work.corners,
+        );
+        frames::words_all(&work.run_4, &work.corners, out, aux);
         let differentiator_after = last.differentiator;
         Block {
             state: WavetableOscillator {

@@ -1,8 +1,6 @@
 -- Document 01, "Bench values", of whole parts, computed.
-use mathlib.Core.Path.{◌≡◌, refl}
-use mathlib.Core.Bool.{false}
-use lib.IntN.{pos, negsuc}
-use lib.Ieee.{nan, fin, binary32, neg, to_unsigned, to_signed, of_int}
+use Rattle.std.proofs.Common.{◌≡◌, refl, false, pos, negsuc}
+use Rattle.std.specs.Float.Ieee.{nan, fin, binary32, neg, to_unsigned, to_signed, of_int}
 use Rattle.words.specs.Binary32.{decimal, of_count}
 use Rattle.words.specs.Parts.{whole_part, whole_float, whole_i32_float}
 use Rattle.words.specs.Fields.{sign_of, biased_exponent, trailing_significand, whole_magnitude, unsigned_whole, signed_whole, unsigned_of, signed_of}

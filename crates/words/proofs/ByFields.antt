@@ -1,14 +1,7 @@
 -- Whole parts by the three fields of a word: a magnitude that is cut off is the significand, shifted as the exponent says.
-use mathlib.Core.Path.{◌≡◌, refl, sym, ap, ◌∙◌, subst}
-use mathlib.Core.Bool.{Bool, true, false, not, ◌||◌, cond}
-use Prim.Native.Nat.{ℕ, zero, suc, ◌+◌, ◌-◌, ◌*◌, ◌/◌, ◌%◌, ◌^◌, ◌≤◌, ◌<◌, min}
-use native.Mathlib.Nat.{le_trans, le_of_eq, lt_of_lt_of_le, mul-one, mul_assoc, mul-le-mul_right, div-one, div-lt_iff_lt-mul, le-div_iff_mul-le, min-eq_left, min-eq_right, mod-lt}
-use native.Mathlib.Omega.{arith}
-use borrow.Author.Tests.{ltb-true, ltb-false, leb-true, leb-false, eq-eqb, ne_eqb}
-use lib.Dec.{T, leb, ltb, eqb, lit<, lit≤}
-use lib.IntN.{pos, neg_ℤ}
-use lib.Pow.{pow-add, pow_pos, pow_mono, shl_lt}
-use lib.Ieee.{Float, nan, inf, binary32, fits, of_fields, of_bits, to_bits, of_int, to_unsigned, to_signed}
+use Rattle.std.proofs.Common.{◌≡◌, refl, sym, ap, ◌∙◌, subst, Bool, true, false, not, ◌||◌, cond, ℕ, zero, suc, ◌+◌, ◌-◌, ◌*◌, ◌/◌, ◌%◌, ◌^◌, ◌≤◌, ◌<◌, min, le_trans, le_of_eq, lt_of_lt_of_le, mul-one, mul_assoc, mul-le-mul_right, div-one, div-lt_iff_lt-mul, le-div_iff_mul-le, mod-lt, arith, ltb-true, ltb-false, leb-true, leb-false, eq-eqb, ne_eqb, T, leb, ltb, eqb, lit<, lit≤, pos, neg_ℤ, pow-add, pow_pos, pow_mono, shl_lt, Float}
+use Rattle.std.proofs.Math.Nat.{min-eq_left, min-eq_right}
+use Rattle.std.specs.Float.Ieee.{nan, inf, binary32, fits, of_fields, of_bits, to_bits, of_int, to_unsigned, to_signed}
 use lib.Ieee.Bits.{of_bits-to_bits, to_bits-lt}
 use lib.Ieee.Exact.{HasValue, odd_sign}
 use lib.Ieee.Nearest.{div_same}

@@ -1,29 +1,8 @@
 -- What a test of a float or of a word says: which floats and which words are a NaN's.
-use mathlib.Core.Path.{◌≡◌, refl, sym, ap, ◌∙◌, subst}
-use mathlib.Core.Bool.{Bool, true, false, not, cond, true≢false, false≢true}
-use Prim.Native.Nat.{ℕ, zero, suc, ◌+◌, ◌/◌, ◌%◌, ◌≤◌, ◌<◌}
-use borrow.Author.Tests.{lt-ltb, le-ltb, ltb-false, leb-false}
-use native.Mathlib.Nat.{mod-eq_of_lt}
-use lib.Dec.{T, leb, eqb}
-use lib.IntN.{ℤ}
-use lib.Ieee.{Float, nan, inf, fin, binary32, eq, ne, lt, is_nan, odd, of_fields, of_bits, to_bits, nan_bits, fits}
+use Rattle.std.proofs.Common.{◌≡◌, refl, sym, ap, ◌∙◌, subst, Bool, true, false, not, cond, true≢false, ℕ, zero, suc, ◌+◌, ◌/◌, ◌%◌, ◌≤◌, ◌<◌, lt-ltb, le-ltb, ltb-false, leb-false, mod-eq_of_lt, T, leb, eqb, ℤ, Float}
+use Rattle.std.proofs.Math.Bool.{false≢true}
+use Rattle.std.specs.Float.Ieee.{nan, inf, fin, binary32, lt, is_nan, odd, of_fields, of_bits, to_bits, nan_bits, fits}
 use lib.Ieee.Bits.{nan_bits_above, nan_bits_is, of_bits-to_bits, is_false}
-use lib.Ieee.Compare.{differs_from_itself}
-
--- a float that equals itself is no NaN
-pub no_nan : (x : Float) → ne x x ≡ false → T (not (is_nan x))
-unfolding ne eq is_nan
-no_nan nan e = absurd (true≢false e)
-no_nan (inf s) e = tt
-no_nan (fin s m e) h = tt
-
--- what the test of a float against itself says
-pub nan_by : (x : Float) → ne x x ≡ true → is_nan x ≡ true
-unfolding is_nan
-nan_by x e = ap is_nan (differs_from_itself x (subst T (sym e) tt))
-
-pub no_nan_by : (x : Float) → ne x x ≡ false → is_nan x ≡ false
-no_nan_by x e = is_false (is_nan x) (no_nan x e)
 
 -- a float above another is no NaN
 pub above_no_nan : (y x : Float) → lt y x ≡ true → T (not (is_nan x))
@@ -34,23 +13,27 @@ above_no_nan (fin s m k) nan e = absurd (false≢true e)
 above_no_nan y (inf s) e = tt
 above_no_nan y (fin s m k) e = tt
 
-pub nan_word : to_bits binary32 nan ≡ 0x7fc00000
-unfolding to_bits
-nan_word = refl
+-- the word of NaN
+pub nan_word : (x : Float) → is_nan x ≡ true → 0x7fc00000 ≡ to_bits binary32 x
+unfolding is_nan to_bits
+nan_word nan e = refl
+nan_word (inf s) e = absurd (false≢true e)
+nan_word (fin s m k) e = absurd (false≢true e)
 
 -- with the sign's bit dropped, a word up to an infinity's is no NaN's
 pub no_nan_bits : (w : ℕ) → w % 2147483648 ≤ 2139095040 → T (not (nan_bits binary32 w))
 no_nan_bits w h = subst (λ (b : Bool). T (not b)) (sym (nan_bits_above binary32 w ∙ le-ltb 2139095040 (w % 2147483648) h)) tt
 
-is_nan_lem : (x : Float) → is_nan x ≡ true → x ≡ nan
+-- a float of which it holds is NaN
+pub nan_is : (x : Float) → is_nan x ≡ true → x ≡ nan
 unfolding is_nan
-is_nan_lem nan e = refl
-is_nan_lem (inf s) e = absurd (false≢true e)
-is_nan_lem (fin s m k) e = absurd (false≢true e)
+nan_is nan e = refl
+nan_is (inf s) e = absurd (false≢true e)
+nan_is (fin s m k) e = absurd (false≢true e)
 
 -- and one above it is
 pub nan_of : (w : ℕ) → 2139095040 < w % 2147483648 → of_bits binary32 w ≡ nan
-nan_of w h = is_nan_lem (of_bits binary32 w) (sym (nan_bits_is binary32 w) ∙ nan_bits_above binary32 w ∙ lt-ltb 2139095040 (w % 2147483648) h)
+nan_of w h = nan_is (of_bits binary32 w) (sym (nan_bits_is binary32 w) ∙ nan_bits_above binary32 w ∙ lt-ltb 2139095040 (w % 2147483648) h)
 
 of_minus : (b : ℕ) → leb 2147483648 b ≡ true → of_bits binary32 b ≡ of_fields binary32 true (b % 2147483648 / 8388608) (b % 8388608)
 unfolding of_bits

@@ -1,17 +1,7 @@
 -- The whole part of a float held at a top, and whether it was held, by tests of the float against the top and a half and the number after the top.
-use mathlib.Core.Path.{◌≡◌, refl, sym, ap, ◌∙◌, subst}
-use mathlib.Core.Logic.{◌⊎◌, inl, inr}
-use mathlib.Core.Bool.{Bool, true, false, cond, ◌&&◌, ◌||◌, true≢false}
-use Prim.Native.Nat.{ℕ, zero, suc, ◌+◌, ◌-◌, ◌*◌, ◌/◌, ◌^◌, ◌≤◌, ◌<◌, min, zero-le}
-use native.Mathlib.Nat.{min-eq_left, min-eq_right, mul-one, one-mul, mul-pos, add-mul, mul_assoc, div-eq_of_lt, le-div_iff_mul-le, div-lt_iff_lt-mul, le-min, min-le_left}
-use native.Mathlib.Nat.{le_trans, lt_of_lt_of_le, lt_of_not-le, not-le_of_lt, eq-or-lt_of_le, le_of_lt, le_of_eq, mul-le-mul_right, mul_right_comm, le_of_mul-le-mul_right}
-use native.Mathlib.Numerals.{add-one}
-use native.Mathlib.Omega.{arith}
-use borrow.Author.Tests.{ltb-true, ltb-false, leb-true, leb-false, lt-ltb, le-ltb, eq-eqb, ne_eqb}
-use lib.Dec.{leb, ltb, eqb, lit<, lit≤}
-use lib.IntN.{pos, negsuc, neg_ℤ}
-use lib.Pow.{pow_mono, shl_lt}
-use lib.Ieee.{Float, nan, inf, fin, binary32, up, down, lt, le, eq, sum, sub, round, neg, of_bits, of_int, to_unsigned, to_signed}
+use Rattle.std.proofs.Common.{◌≡◌, refl, sym, ap, ◌∙◌, subst, ◌⊎◌, inl, inr, Bool, true, false, cond, ◌&&◌, ◌||◌, true≢false, ℕ, zero, suc, ◌+◌, ◌-◌, ◌*◌, ◌/◌, ◌^◌, ◌≤◌, ◌<◌, min, zero-le, mul-one, one-mul, mul-pos, add-mul, mul_assoc, le-div_iff_mul-le, div-lt_iff_lt-mul, le_trans, lt_of_lt_of_le, lt_of_not-le, not-le_of_lt, eq-or-lt_of_le, le_of_lt, le_of_eq, mul-le-mul_right, mul_right_comm, le_of_mul-le-mul_right, add-one, arith, ltb-true, ltb-false, leb-true, leb-false, lt-ltb, le-ltb, eq-eqb, ne_eqb, leb, ltb, eqb, lit<, lit≤, pos, negsuc, neg_ℤ, pow_mono, shl_lt, Float}
+use Rattle.std.proofs.Math.Nat.{min-eq_left, min-eq_right, div-eq_of_lt, le-min, min-le_left}
+use Rattle.std.specs.Float.Ieee.{nan, inf, fin, binary32, up, down, lt, le, eq, sum, sub, round, neg, of_bits, of_int, to_unsigned, to_signed}
 use lib.Ieee.Fits.{down_pos}
 use lib.Ieee.Exact.{HasValue, round_exact}
 use lib.Ieee.Scale.{round_same}

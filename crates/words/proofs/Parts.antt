@@ -1,8 +1,6 @@
 -- What a held part gives: its whole part is at most the top.
-use mathlib.Core.Path.{◌≡◌, sym, subst}
-use Prim.Native.Nat.{ℕ, ◌≤◌}
-use native.Mathlib.Nat.{min-le_right}
-use lib.Ieee.{Float}
+use Rattle.std.proofs.Common.{◌≡◌, sym, subst, ℕ, ◌≤◌, Float}
+use Rattle.std.proofs.Math.Nat.{min-le_right}
 use Rattle.words.specs.declared.Part.{Part}
 use Rattle.words.specs.Parts.{part_of, whole_part}
 

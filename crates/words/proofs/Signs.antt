@@ -1,25 +1,14 @@
 -- A signed number by its sign, and a float with the other sign.
-use mathlib.Core.Path.{◌≡◌, refl, sym, ap, ◌∙◌, subst}
-use mathlib.Core.Bool.{Bool, true, false, cond, true≢false}
-use Prim.Native.Nat.{ℕ, zero, suc, ◌+◌, ◌*◌, ◌^◌}
-use native.Mathlib.Omega.{arith}
-use borrow.Author.Tests.{ltb-true}
-use lib.Dec.{ltb}
-use lib.IntN.{ℤ, pos, negsuc, ◌-ℤ◌, +ℤ_idl}
+use Rattle.std.proofs.Common.{◌≡◌, refl, ap, ◌∙◌, subst, Bool, true, false, cond, ℕ, zero, suc, ◌+◌, ◌*◌, ◌^◌, arith, ltb-true, ltb, ℤ, pos, negsuc, ◌-ℤ◌, w32, w64, SFits, to_z, of_z, to_z-of_z, Float}
+use Rattle.std.proofs.Math.IntN.{+ℤ_idl}
+use Rattle.std.proofs.Math.Facts.{sfits_widen}
+use Rattle.std.specs.Float.Ieee.{Format, binary32, low, emax, prec, odd, units, round, neg, of_int}
 use lib.Signed.{lt_z}
-use mir.Syntax.{w32, w64}
-use mir.Val.{SFits, to_z, of_z}
-use mir.Facts.{to_z-of_z, sfits_widen}
-use lib.Ieee.{Float, Format, binary32, low, emax, prec, odd, units, round, neg, of_int}
 
 -- ---- the sign of an i32
 pub below_zero : (n : ℤ) → lt_z n (pos 0) ≡ true → (k : ℕ) × (n ≡ negsuc k)
 below_zero (pos m) e = absurd (omega (arith, ltb-true m 0 e))
 below_zero (negsuc k) e = (k, refl)
-
-pub not_below : (n : ℤ) → lt_z n (pos 0) ≡ false → (k : ℕ) × (n ≡ pos k)
-not_below (pos k) e = (k, refl)
-not_below (negsuc k) e = absurd (true≢false e)
 
 pub widened : (n : ℤ) → SFits w32 n → to_z w64 (of_z w64 (to_z w32 (of_z w32 n))) ≡ n
 widened n f = ap (λ (z : ℤ). to_z w64 (of_z w64 z)) (to_z-of_z {w = w32} f) ∙ to_z-of_z {w = w64} (sfits_widen {w = w32} {w' = w64} tt f)
@@ -30,11 +19,6 @@ taken n k f e = ap (λ (z : ℤ). pos 0 -ℤ z) (widened n f ∙ e) ∙ +ℤ_idl
 
 small : (n : ℤ) (k : ℕ) → SFits w32 n → n ≡ negsuc k → SFits w64 (pos (suc k))
 small n k f e = record { sfits = omega (arith, (subst (SFits w32) e f).sfits) }
-
-pub taken_fits : (n : ℤ) → SFits w32 n → lt_z n (pos 0) ≡ true → SFits w64 (pos 0 -ℤ to_z w64 (of_z w64 (to_z w32 (of_z w32 n))))
-taken_fits n f h =
-    let k = below_zero n h in
-    subst (SFits w64) (sym (taken n k.0 f k.1)) (small n k.0 f k.1)
 
 -- read back, it is the magnitude
 pub taken_is : (n : ℤ) (k : ℕ) → SFits w32 n → n ≡ negsuc k → to_z w64 (of_z w64 (pos 0 -ℤ to_z w64 (of_z w64 (to_z w32 (of_z w32 n))))) ≡ pos (suc k)

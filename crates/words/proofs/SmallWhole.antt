@@ -1,14 +1,7 @@
 -- A float from a half to below 2 ^ 23: its word is the biased exponent and the trailing significand alone, and the shift is from 1 to 24.
-use mathlib.Core.Path.{◌≡◌, refl, sym, ap, ◌∙◌, subst}
-use mathlib.Core.Bool.{Bool, true, false, cond}
-use Prim.Native.Nat.{ℕ, zero, suc, ◌+◌, ◌-◌, ◌*◌, ◌/◌, ◌%◌, ◌^◌, ◌≤◌, ◌<◌, min}
-use native.Mathlib.Nat.{le_of_suc-le-suc, eq_of_mul-eq-mul_right, mul_comm, mul_right_comm, mul-lt-mul_of_pos_right, lt_of_not-le, not-le_of_lt, le_of_mul-le-mul_right, lt_of_mul-lt-mul_right}
-use native.Mathlib.Nat.{le_trans, le_of_eq, le_of_lt, lt_of_lt_of_le, mul-le-mul_right, div-lt_iff_lt-mul, min-eq_left, mod-lt}
-use native.Mathlib.Omega.{arith}
-use borrow.Author.Tests.{ltb-true, ltb-false, leb-false}
-use lib.Dec.{T, leb, ltb, eqb, lit<, lit≤}
-use lib.Pow.{pow_pos}
-use lib.Ieee.{Float, nan, inf, fin, binary32, up, down, fits, of_fields, of_bits, to_bits, to_unsigned}
+use Rattle.std.proofs.Common.{◌≡◌, refl, sym, ap, ◌∙◌, subst, Bool, true, false, cond, ℕ, zero, suc, ◌+◌, ◌-◌, ◌*◌, ◌/◌, ◌%◌, ◌^◌, ◌≤◌, ◌<◌, min, le_of_suc-le-suc, mul_comm, mul_right_comm, mul-lt-mul_of_pos_right, lt_of_not-le, not-le_of_lt, le_of_mul-le-mul_right, lt_of_mul-lt-mul_right, le_trans, le_of_eq, le_of_lt, lt_of_lt_of_le, mul-le-mul_right, div-lt_iff_lt-mul, mod-lt, arith, ltb-true, ltb-false, leb-false, T, leb, ltb, eqb, lit<, lit≤, pow_pos, Float}
+use Rattle.std.proofs.Math.Nat.{eq_of_mul-eq-mul_right, min-eq_left}
+use Rattle.std.specs.Float.Ieee.{nan, inf, fin, binary32, up, down, fits, of_fields, of_bits, to_bits, to_unsigned}
 use lib.Ieee.Bits.{of_bits-to_bits}
 use lib.Ieee.Fits.{down_pos}
 use lib.Ieee.Exact.{HasValue}

@@ -1,13 +1,7 @@
 -- Operations by the values of their operands: a float that is a / c in size, not below 0. A sum, a difference and a product are the exact result, rounded.
-use mathlib.Core.Path.{◌≡◌, refl, sym, ap, ◌∙◌}
-use mathlib.Core.Bool.{Bool, true, false, cond}
-use Prim.Native.Nat.{ℕ, ◌+◌, ◌-◌, ◌*◌, ◌/◌, ◌%◌, ◌≤◌, ◌<◌}
-use native.Mathlib.Nat.{mul_comm, mul_left_comm, mul-one, mul-add, mul-sub, mul-pos, lt_of_not-le, not-le_of_lt, mul-mul-mul_comm, div-add-mod'}
-use native.Mathlib.Omega.{arith}
-use borrow.Author.Tests.{le-ltb, lt-ltb}
-use lib.Dec.{lit<}
-use lib.IntN.{ℤ}
-use lib.Ieee.{Float, nan, inf, fin, binary32, up, down, lt, sum, add, sub, mul, round, of_int}
+use Rattle.std.proofs.Common.{◌≡◌, refl, sym, ap, ◌∙◌, Bool, true, false, cond, ℕ, ◌+◌, ◌-◌, ◌*◌, ◌/◌, ◌%◌, ◌≤◌, ◌<◌, mul_comm, mul_left_comm, mul-one, mul-add, mul-pos, lt_of_not-le, not-le_of_lt, div-add-mod', arith, le-ltb, lt-ltb, lit<, ℤ, Float}
+use Rattle.std.proofs.Math.Nat.{mul-sub, mul-mul-mul_comm}
+use Rattle.std.specs.Float.Ieee.{nan, inf, fin, binary32, up, down, lt, sum, add, sub, mul, round, of_int}
 use lib.Ieee.Fits.{down_pos}
 use lib.Ieee.Exact.{HasValue}
 use lib.Ieee.Scale.{round_same}

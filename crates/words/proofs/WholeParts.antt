@@ -1,16 +1,10 @@
 -- The whole part of a float by its value, and as an i32 from the unsigned one.
-use mathlib.Core.Path.{◌≡◌, refl, sym, ap, ◌∙◌}
-use mathlib.Core.Bool.{Bool, true, false, cond, true≢false, false≢true}
-use Prim.Native.Nat.{ℕ, zero, suc, ◌+◌, ◌*◌, ◌/◌, ◌≤◌, ◌<◌, ◌-◌, ◌^◌, min}
-use native.Mathlib.Nat.{div-lt_iff_lt-mul, min-le_left, le_trans, min-eq_right, min-eq_left, zero-min, zero-div}
-use native.Mathlib.Omega.{arith}
-use borrow.Author.Tests.{ltb-true, ltb-false, leb-true, leb-false}
-use lib.IntN.{ℤ, pos, neg_ℤ, ◌-ℤ◌, +ℤ_idl}
-use lib.Dec.{leb, lit≤, lit<}
-use mir.Val.{SFits, to_z, of_z}
-use mir.Facts.{to_z_pos, to_z-of_z}
-use mir.Syntax.{w32}
-use lib.Ieee.{Float, nan, inf, fin, up, down, lt, neg, binary32, of_bits, to_unsigned, to_signed}
+use Rattle.std.proofs.Common.{◌≡◌, refl, sym, ap, ◌∙◌, Bool, true, false, cond, true≢false, ℕ, zero, suc, ◌+◌, ◌*◌, ◌/◌, ◌≤◌, ◌<◌, ◌-◌, ◌^◌, min, div-lt_iff_lt-mul, le_trans, arith, ltb-true, ltb-false, leb-true, leb-false, ℤ, pos, neg_ℤ, ◌-ℤ◌, leb, lit≤, lit<, SFits, to_z, of_z, to_z-of_z, w32, Float}
+use Rattle.std.proofs.Math.Bool.{false≢true}
+use Rattle.std.proofs.Math.Nat.{min-le_left, min-eq_right, min-eq_left, zero-min, zero-div}
+use Rattle.std.proofs.Math.IntN.{+ℤ_idl}
+use Rattle.std.proofs.Math.Facts.{to_z_pos}
+use Rattle.std.specs.Float.Ieee.{nan, inf, fin, up, down, lt, neg, binary32, of_bits, to_unsigned, to_signed}
 use lib.Ieee.Fits.{down_pos}
 use lib.Ieee.Nearest.{div_same}
 use lib.Ieee.Exact.{HasValue}

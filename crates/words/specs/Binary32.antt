@@ -3,6 +3,7 @@
 use Rattle.std.specs.Prelude.{ℕ, ◌^◌, false, pos, Float}
 use Rattle.std.specs.Float.{binary32}
 use Rattle.std.specs.Float.Ieee.{add, sub, mul, div, round, of_int}
+unfoldable pub use Rattle.std.specs.Float.Ieee.{of_bits}
 
 infixl 65 ◌⊕◌
 infixl 65 ◌⊖◌

@@ -27,8 +27,8 @@ abbrev pub bias : ℕ
 bias = 127
 
 -- NaN: E is 2 ^ 8 - 1, and T is not 0. (With T = 0 it is an infinity.)
-abbrev pub not_anumber : ℕ → ℕ → Bool
-not_anumber E T = eqb E 255 && not (eqb T 0)
+abbrev pub not_a_number : ℕ → ℕ → Bool
+not_a_number E T = eqb E 255 && not (eqb T 0)
 
 -- The magnitude of a normal number is 2 ^ (E - bias) times 1 + T / 2 ^ 23. So it is the significand 2 ^ 23 + T, its implicit leading bit put back, times 2 ^ (E - bias - 23).
 -- Its whole part: up to E = bias + 23 that power divides, and what it does not divide is cut off; above, it multiplies. Where E is below the bias, as in zeros and subnormal numbers, the magnitude is below 1.
@@ -38,7 +38,7 @@ whole_magnitude E T =
 
 -- Document 01's unsigned whole part: "NaN gives 0", "below 0 gives 0, saturates at 18446744073709551615". From E = bias + 64 on the magnitude is 2 ^ 64 or more, or infinite.
 unfoldable pub unsigned_whole : ℕ → ℕ → ℕ → ℕ
-unsigned_whole S E T = cond (eqb S 1 || not_anumber E T) 0 (cond (ltb E (bias + 64)) (whole_magnitude E T) (2 ^ 64 - 1))
+unsigned_whole S E T = cond (eqb S 1 || not_a_number E T) 0 (cond (ltb E (bias + 64)) (whole_magnitude E T) (2 ^ 64 - 1))
 
 -- A number with the sign S.
 abbrev pub signed : ℕ → ℕ → ℤ
@@ -47,7 +47,7 @@ signed S n = cond (eqb S 1) (neg_ℤ (pos n)) (pos n)
 -- Document 01's whole part to i32: "NaN gives 0", "saturates at both ends". From E = bias + 31 on the magnitude is 2 ^ 31 or more, or infinite, and the sign says which end it is.
 unfoldable pub signed_whole : ℕ → ℕ → ℕ → ℤ
 signed_whole S E T =
-    cond (not_anumber E T) (pos 0) (cond (ltb E (bias + 31)) (signed S (whole_magnitude E T)) (cond (eqb S 1) (neg_ℤ (pos (2 ^ 31))) (pos (2 ^ 31 - 1))))
+    cond (not_a_number E T) (pos 0) (cond (ltb E (bias + 31)) (signed S (whole_magnitude E T)) (cond (eqb S 1) (neg_ℤ (pos (2 ^ 31))) (pos (2 ^ 31 - 1))))
 
 -- ---- the claim
 

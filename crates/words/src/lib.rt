@@ -1,30 +1,34 @@
 // Words and floats: a float's word, a word's float, whole parts, and whole numbers as floats.
 #![tactic(auto)]
 
-ghost use Rattle.std.specs.Prelude.{◌≡◌, cond};
-ghost use Prim.Native.Nat.{compare, min, ◌+◌, ◌*◌, ◌/◌, ◌≤◌, ◌<◌};
+ghost use Rattle.std.specs.Prelude.{◌≡◌, ◌+◌, ◌*◌, ◌/◌, ◌≤◌, ◌<◌, min, cond};
+ghost use Prim.Native.Nat.{compare};
 ghost use Rattle.std.specs.Float.{binary32};
 ghost use Rattle.std.specs.Float.Ieee.{to_bits, of_bits, to_unsigned, to_signed, of_int, nearest, neg, lt};
 ghost use Rattle.words.specs.Binary32.{◌⊕◌, ◌⊖◌, of_count};
 ghost use Rattle.words.specs.Parts.{whole_float, whole_i32_float, part_of};
 ghost use Rattle.words.specs.Inner.{half, Scaled, Small};
 
+use std::cmp::Ordering;
+
 // Whole parts by a word's three fields.
 mod fields;
 
 // The word of a float. Any NaN gives 7fc00000.
+#[tactic(auto, using(crate::proofs::Floats::nan_word))]
 pub fn to_word(x: f32) -> u32
     ensures { result ≡ to_bits binary32 x }
 {
-    if x != x { 0x7fc00000 } else { f32::to_bits(x) }
+    if x.is_nan() { 0x7fc00000 } else { x.to_bits() }
 }
 
 // The float of a word. Every NaN's word gives the one NaN.
+#[tactic(auto, using(crate::proofs::Floats::no_nan_bits, crate::proofs::Floats::nan_of), unfolding(crate::specs::Binary32::of_bits))]
 pub fn of_word(w: u32) -> f32
     ensures { result ≡ of_bits binary32 w }
 {
     if w % 0x80000000 > 0x7f800000 {
-        0.0 / 0.0
+        f32::NAN
     } else {
         f32::from_bits(w)
     }
@@ -34,22 +38,14 @@ pub fn of_word(w: u32) -> f32
 pub fn whole(x: f32) -> u64
     ensures { result ≡ to_unsigned 64 x }
 {
-    let word = to_word(x);
-    let sign = fields::sign(word);
-    let biased = fields::biased_exponent(word);
-    let trailing = fields::trailing_significand(word);
-    fields::unsigned_whole(sign, biased, trailing)
+    fields::Fields::from(to_word(x)).unsigned_whole()
 }
 
 // The whole part of a float as an i32, toward zero. NaN gives 0; it saturates at both ends.
 pub fn whole_i32(x: f32) -> i32
     ensures { result ≡ to_signed 31 x }
 {
-    let word = to_word(x);
-    let sign = fields::sign(word);
-    let biased = fields::biased_exponent(word);
-    let trailing = fields::trailing_significand(word);
-    fields::signed_whole(sign, biased, trailing)
+    fields::Fields::from(to_word(x)).signed_whole()
 }
 
 // A power of two, as a number and as a float.
@@ -81,12 +77,10 @@ fn settle(q: u64, r: u64, u: u64) -> u64
     requires { (q < 16777216) × ((r < u) × (u ≤ 1099511627776)) }
     ensures { result ≡ nearest q (compare (r * 2) u) }
 {
-    if r * 2 < u {
-        q
-    } else if r * 2 == u {
-        q + q % 2
-    } else {
-        q + 1
+    match (r * 2).cmp(&u) {
+        Ordering::Less => q,
+        Ordering::Equal => q + q % 2,
+        Ordering::Greater => q + 1,
     }
 }
 
@@ -115,6 +109,7 @@ pub fn float_of_i32(n: i32) -> f32
 }
 
 // x, or a half where x is not above that: a float with the same unsigned whole part.
+#[tactic(auto, unfolding(crate::specs::Binary32::of_bits, crate::specs::Binary32::decimal))]
 fn at_least_half(x: f32) -> f32
     ensures { result ≡ cond (lt half x) x half }
 {
@@ -197,6 +192,7 @@ fn index_up_to(n: u32, top: usize) -> usize
 }
 
 // A position whose whole part is held at a `top` below 8388607, by `small_whole`, for speed; `bound` is `top` and a half, and `above` the number after `top`.
+// A struct of the three would be no plainer: it would be made in one place, and taken apart in this one.
 fn near_part(x: f32, top: usize, bound: f32, above: f32) -> Part
     requires { (top < 8388607) × ((bound ≡ of_count top ⊕ half) × (above ≡ of_count (top + 1))) }
     ensures { result ≡ part_of top x }
@@ -210,6 +206,7 @@ fn near_part(x: f32, top: usize, bound: f32, above: f32) -> Part
 }
 
 // The same for any `top`.
+#[tactic(auto, unfolding(crate::specs::Parts::part_of))]
 fn far_part(x: f32, top: usize) -> Part
     ensures { result ≡ part_of top x }
 {

@@ -1,18 +1,12 @@
 -- Lines of words without a capital letter, in row order, are written as they stood; and every line that passes has its LF.
-use mathlib.Core.Path.{◌≡◌, refl, ap, ◌∙◌}
-use mathlib.Core.Bool.{true, false≢true}
-use mathlib.Core.List.{List, [], ◌∷◌, map}
-use Prim.Native.Nat.{ℕ, suc}
-use borrow.Author.Tests.{eqb-true}
-use lib.Dec.{eqb}
-use lib.ListN.{length, length-map}
-use lib.Seq.{take_at, drop_at}
+use Rattle.std.proofs.Common.{◌≡◌, refl, ap, ◌∙◌, true, List, [], ◌∷◌, map, ℕ, suc, eqb-true, eqb, length, take_at, drop_at, Ok}
+use mathlib.Core.Bool.{false≢true}
+use lib.ListN.{length-map}
 use Rattle.score.specs.Rows.{row_words}
 use Rattle.text.specs.Text.{Line, ended, unended, contents, fields_of, first_of, rest_of, is_word, each_word, word_of, field_of, no_capital}
 use Rattle.names.specs.declared.Source.{Source}
 use Rattle.names.specs.Sources.{holds_names}
 use Rattle.values.specs.Lines.{holds_words, row_of, rows_of}
-use Rattle.reader.specs.declared.ReadAnswer.TheVariants.{Read}
 use Rattle.reader.specs.Reading.{score_table, test_lines}
 use Rattle.lists.proofs.Cases.{both}
 use Rattle.text.proofs.Joining.{is_ended, each_ended, fields_on}
@@ -27,11 +21,11 @@ unfolding holds_words
 words_ended n (ended bs) w = refl
 words_ended n (unended bs) w = absurd (false≢true w)
 
-pub lines_ended : (n : ℕ) (sources : List Source) (lines : List Line) (at c : ℕ) → test_lines n sources true at lines ≡ Read c → each_ended lines ≡ true
+pub lines_ended : (n : ℕ) (sources : List Source) (lines : List Line) (at c : ℕ) → test_lines n sources true at lines ≡ Ok c → each_ended lines ≡ true
 lines_ended n sources [] at c e = refl
 lines_ended n sources (line ∷ lines) at c e =
     let p = line_passes n sources line lines at c e in
-    rw (words_ended n line (value n sources line true p.0)) (lines_ended n sources lines (suc at) c p.1)
+    rw (words_ended n line (value n sources at line true p.0)) (lines_ended n sources lines (suc at) c p.1)
 
 -- the words of fields, written again
 fields_back : (fields : List (List ℕ)) → each_word fields ≡ true → each_lower fields ≡ true → map field_of (map word_of fields) ≡ fields
@@ -52,14 +46,14 @@ line_back (ended bs) w l =
     (ap length e ∙ length-map (fields_of bs) word_of ∙ n, ap (map field_of) e ∙ fields_back (fields_of bs) d.1 l)
 line_back (unended bs) w l = absurd (false≢true w)
 
-pub lines_back : (lines : List Line) (at c : ℕ) → test_lines row_words columns true at lines ≡ Read c → lines_lower (fields_on lines) ≡ true
+pub lines_back : (lines : List Line) (at c : ℕ) → test_lines row_words columns true at lines ≡ Ok c → lines_lower (fields_on lines) ≡ true
     → row_lines (length lines) (rows_of columns lines) ≡ fields_on lines
 unfolding row_lines rows_of
 lines_back [] at c e l = refl
 lines_back (line ∷ lines) at c e l =
     let p = line_passes row_words columns line lines at c e in
     let k = both (each_lower (fields_of (contents line))) (lines_lower (fields_on lines)) l in
-    let b = line_back line (value row_words columns line true p.0) k.0 in
+    let b = line_back line (value row_words columns at line true p.0) k.0 in
     let row = row_of columns line in
     let later = rows_of columns lines in
     rw (take_at row later row_words b.0, drop_at row later row_words b.0, b.1, lines_back lines (suc at) c p.1 k.1)

@@ -1,17 +1,10 @@
 -- The words of a text that was read have 32 bits: each stands in a column, as eight digits.
-use mathlib.Core.Path.{◌≡◌, refl}
-use mathlib.Core.Bool.{Bool, true, false, cond, false≢true}
-use mathlib.Core.List.{List, [], ◌∷◌, ◌++◌}
-use Prim.Native.Nat.{ℕ, zero, suc, ◌^◌, ◌<◌}
-use native.Mathlib.Omega.{arith}
-use borrow.Author.Tests.{eqb-true, ltb-true}
-use lib.Dec.{eqb, ltb}
-use lib.ListN.{length, get_or}
+use Rattle.std.proofs.Common.{◌≡◌, refl, true, List, [], ◌∷◌, ◌++◌, ℕ, zero, suc, ◌^◌, ◌<◌, arith, eqb-true, ltb-true, eqb, length, get_or, Ok, Option, Some, None}
+use mathlib.Core.Bool.{false≢true}
 use Rattle.text.specs.Text.{column_of, Line, ended, unended, contents, fields_of, lines_of, first_of, rest_of, is_word, each_word}
 use Rattle.names.specs.declared.Source.TheVariants.{Column, Missing}
-use Rattle.names.specs.Sources.{Entry, source_of, sources_of, readable, each_readable, holds_names}
+use Rattle.names.specs.Sources.{Entry, source_at, source_of, sources_of, readable, each_readable, holds_names}
 use Rattle.values.specs.Lines.{holds_words, word_from, row_of, rows_of}
-use Rattle.reader.specs.declared.ReadAnswer.TheVariants.{Read}
 use Rattle.reader.specs.Reading.{score_table, test_lines, test_text, text_rows}
 use Rattle.lists.proofs.Cases.{both}
 use Rattle.text.proofs.Digits.{word_small}
@@ -41,14 +34,11 @@ column_fits n column (unended bs) h w = absurd (false≢true w)
 
 source_fits : (fields : List (List ℕ)) (n : ℕ) (entry : Entry) → entry.absent ≡ Missing → readable n (source_of fields entry) ≡ true
     → (line : Line) → holds_words n line ≡ true → word_from line (source_of fields entry) < 2 ^ 32
-source_fits fields n entry a r line w = go (ltb column (length fields)) r
+source_fits fields n entry a r line w = go (column_of entry.spelling fields) r
   where
-    column : ℕ
-    column = column_of entry.spelling fields
-
-    go : (b : Bool) → readable n (cond b (Column column) entry.absent) ≡ true → word_from line (cond b (Column column) entry.absent) < 2 ^ 32
-    go true r = column_fits n column line (ltb-true column n r) w
-    go false r = absurd (false≢true (rw a at r))
+    go : (column : Option ℕ) → readable n (source_at column entry.absent) ≡ true → word_from line (source_at column entry.absent) < 2 ^ 32
+    go (Some column) r = column_fits n column line (ltb-true column n r) w
+    go None r = absurd (false≢true (rw a at r))
 
 abbrev NoneAbsent : List Entry → Type 0
 NoneAbsent [] = Unit {0}
@@ -63,14 +53,14 @@ row_fits (entry ∷ table) a fields n r line w =
     (source_fits fields n entry a.0 d.0 line w, row_fits table a.1 fields n d.1 line w)
 
 rows_fit : (fields : List (List ℕ)) (n : ℕ) → each_readable n (sources_of score_table fields) ≡ true
-    → (lines : List Line) (at c : ℕ) → test_lines n (sources_of score_table fields) true at lines ≡ Read c → Fit (rows_of (sources_of score_table fields) lines)
+    → (lines : List Line) (at c : ℕ) → test_lines n (sources_of score_table fields) true at lines ≡ Ok c → Fit (rows_of (sources_of score_table fields) lines)
 unfolding rows_of score_table
 rows_fit fields n r [] at c e = tt
 rows_fit fields n r (line ∷ lines) at c e =
     let sources = sources_of score_table fields in
     let p = line_passes n sources line lines at c e in
     fit_append (row_of sources line) (rows_of sources lines)
-    (row_fits score_table (refl, (refl, (refl, (refl, (refl, tt))))) fields n r line (value n sources line true p.0))
+    (row_fits score_table (refl, (refl, (refl, (refl, (refl, tt))))) fields n r line (value n sources at line true p.0))
     (rows_fit fields n r lines (suc at) c p.1)
 
 names_readable : (line : Line) → holds_names score_table line ≡ true → each_readable (length (fields_of (contents line))) (sources_of score_table (fields_of (contents line))) ≡ true
@@ -78,7 +68,7 @@ unfolding holds_names
 names_readable (ended bs) e = all_readable (length (fields_of bs)) (sources_of score_table (fields_of bs)) e
 names_readable (unended bs) e = absurd (false≢true e)
 
-pub text_fits : (text : List ℕ) (c : ℕ) → test_text score_table true (lines_of text) ≡ Read c → Fit (rows_in text)
+pub text_fits : (text : List ℕ) (c : ℕ) → test_text score_table true (lines_of text) ≡ Ok c → Fit (rows_in text)
 unfolding text_rows
 text_fits text c e =
     let p = accepting.text_passes (lines_of text) c e in

@@ -1,12 +1,6 @@
 -- Lines as they are written, from the front: a word and the byte after it, then what follows; a row's line, then the others; and their lengths.
-use mathlib.Core.Path.{◌≡◌, refl, sym, ap, ◌∙◌}
-use mathlib.Core.List.{List, [], ◌∷◌, ◌++◌, map, append_assoc}
-use Prim.Native.Nat.{ℕ, zero, suc, ◌+◌, ◌-◌, ◌*◌, ◌≤◌, ◌<◌}
-use native.Mathlib.Nat.{suc-mul}
-use native.Mathlib.Numerals.{add-one}
-use native.Mathlib.Omega.{arith}
-use lib.ListN.{length, get_or, take, drop, set, length-append, length-drop, drop_of_length-le}
-use lib.Seq.{drop-cons, drop-drop, length-take-le, set_at}
+use Rattle.std.proofs.Common.{◌≡◌, refl, sym, ap, ◌∙◌, List, [], ◌∷◌, ◌++◌, map, append_assoc, ℕ, zero, suc, ◌+◌, ◌-◌, ◌*◌, ◌≤◌, ◌<◌, suc-mul, add-one, arith, length, get_or, take, drop, set, length-append, length-drop, drop_of_length-le, drop-cons, drop-drop, length-take-le}
+use lib.Seq.{set_at}
 use Rattle.score.specs.Rows.{row_words}
 use Rattle.text.specs.Text.{bytes, lf, space, joined, line_of, text_of, field_of}
 use Rattle.text.proofs.LowerDigits.{field_long}

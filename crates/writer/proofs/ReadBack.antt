@@ -1,12 +1,6 @@
 -- A written text is read as what was written: its lines and fields are those that were put, and each word is read as itself.
-use mathlib.Core.Path.{◌≡◌, refl, sym, ap, ◌∙◌}
-use mathlib.Core.Bool.{Bool, true, false, cond}
-use mathlib.Core.List.{List, [], ◌∷◌, map}
-use Prim.Native.Nat.{ℕ, zero, suc, ◌+◌, ◌*◌, ◌^◌, ◌≤◌, ◌<◌}
-use native.Mathlib.Nat.{suc-mul}
-use native.Mathlib.Omega.{arith}
-use lib.ListN.{length, get_or, take, drop, length-drop, length-map}
-use lib.Seq.{length-take-le, take-add}
+use Rattle.std.proofs.Common.{◌≡◌, refl, sym, ap, ◌∙◌, Bool, true, false, cond, true≢false, List, [], ◌∷◌, map, ℕ, zero, suc, ◌+◌, ◌*◌, ◌^◌, ◌≤◌, ◌<◌, suc-mul, arith, length, get_or, take, drop, length-drop, length-take-le, take-add, Ok, Option, Some, None, option_map, is_some}
+use lib.ListN.{length-map}
 use Rattle.lists.specs.Lists.{same}
 use Rattle.score.specs.Rows.{row_words}
 use Rattle.score.specs.Limits.{row_within, first_bad}
@@ -14,8 +8,8 @@ use Rattle.text.specs.Text.{lf, space, split, joined, Line, contents, fields_of,
 use Rattle.names.specs.declared.Source.{Source}
 use Rattle.names.specs.declared.Source.TheVariants.{Column}
 use Rattle.names.specs.Sources.{sources_of, column_count, each_readable, each_once, holds_names}
-use Rattle.values.specs.Lines.{holds_words, row_of, rows_of, line_number}
-use Rattle.reader.specs.declared.ReadAnswer.TheVariants.{Read}
+use Rattle.values.specs.Lines.{holds_words, row_of, rows_of, test_line}
+use Rattle.score.specs.Numbers.{accepted}
 use Rattle.reader.specs.Reading.{score_table, test_lines, test_text, text_rows}
 use Rattle.text.proofs.Joining.{each_lacks, lacks_joined, split_joined, written, each_line, lines_written}
 use Rattle.text.proofs.LowerDigits.{field_is_word, word_of_field, field_lacks}
@@ -88,9 +82,9 @@ row_back row h f =
     let l : length (fields_of (joined space (map field_of row))) ≡ row_words = ap length e ∙ length-map row field_of ∙ h in
     (rw (l, e) (each_word_lem row), row_by_fields (row_line row) l ∙ ap (map word_of) e ∙ words_back row f)
 
-row_number : (row : List ℕ) → length row ≡ row_words → Fit row → row_within row ≡ true → line_number row_words columns true (row_line row) ≡ 0
-unfolding line_number
-row_number row h f w = let b = row_back row h f in rw (b.0, b.1, w)
+row_passes : (row : List ℕ) → length row ≡ row_words → Fit row → row_within row ≡ true → (at : ℕ) → test_line row_words columns true at (row_line row) ≡ accepted
+unfolding test_line
+row_passes row h f w at = let b = row_back row h f in rw (b.0, b.1, w)
 
 -- ---- the lines of the rows
 five : (count : ℕ) (rows : List ℕ) → suc count * row_words ≤ length rows → length (take row_words rows) ≡ row_words
@@ -109,23 +103,24 @@ rows_back (suc count) rows h f =
     rw (one, more, n) (sym (take-add row_words (count * row_words) rows))
 
 -- rows none of which is bad
-none_bad : (count : ℕ) (rows : List ℕ) → first_bad (suc count) rows ≡ suc count → (row_within (take row_words rows) ≡ true) × (first_bad count (drop row_words rows) ≡ count)
+none_bad : (count : ℕ) (rows : List ℕ) → first_bad (suc count) rows ≡ None → (row_within (take row_words rows) ≡ true) × (first_bad count (drop row_words rows) ≡ None)
 unfolding first_bad
-none_bad count rows e = go (row_within (take row_words rows)) e
+none_bad count rows e = go (row_within (take row_words rows)) (first_bad count (drop row_words rows)) e
   where
-    go : (b : Bool) → cond b (suc (first_bad count (drop row_words rows))) 0 ≡ suc count → (b ≡ true) × (first_bad count (drop row_words rows) ≡ count)
-    go true e = (refl, omega arith)
-    go false e = absurd (omega arith)
+    go : (b : Bool) (o : Option ℕ) → cond b (option_map suc o) (Some 0) ≡ None → (b ≡ true) × (o ≡ None)
+    go true None e = (refl, refl)
+    go true (Some k) e = absurd (true≢false (ap is_some e))
+    go false o e = absurd (true≢false (ap is_some e))
 
-pub lines_pass : (count : ℕ) (rows : List ℕ) (at : ℕ) → count * row_words ≤ length rows → Fit rows → first_bad count rows ≡ count
-    → test_lines row_words columns true at (map written (row_lines count rows)) ≡ Read (at + count)
+pub lines_pass : (count : ℕ) (rows : List ℕ) (at : ℕ) → count * row_words ≤ length rows → Fit rows → first_bad count rows ≡ None
+    → test_lines row_words columns true at (map written (row_lines count rows)) ≡ Ok (at + count)
 unfolding row_lines test_lines
-lines_pass zero rows at h f e = ap Read (omega arith)
+lines_pass zero rows at h f e = ap (λ (n : ℕ). Ok n) (omega arith)
 lines_pass (suc count) rows at h f e =
     let b = none_bad count rows e in
     let n : suc at + count ≡ at + suc count = omega arith in
-    rw (row_number (take row_words rows) (five count rows h) (fit_take row_words rows f) b.0)
-    (lines_pass count (drop row_words rows) (suc at) (others count rows h) (fit_drop row_words rows f) b.1 ∙ ap Read n)
+    rw (row_passes (take row_words rows) (five count rows h) (fit_take row_words rows f) b.0 at)
+    (lines_pass count (drop row_words rows) (suc at) (others count rows h) (fit_drop row_words rows f) b.1 ∙ ap (λ (k : ℕ). Ok k) n)
 
 -- ---- the text
 rows_on_lines : (count : ℕ) (rows : List ℕ) → each_line (row_lines count rows) ≡ true
@@ -160,8 +155,8 @@ module _ (count : ℕ) (rows : List ℕ) (h : count * row_words ≤ length rows)
   unfolding text_rows
   text_rows_lem = rw (text_lines count rows, names_fields, names_columns) (rows_back count rows h f)
 
-  pub text_passes : first_bad count rows ≡ count → test_text score_table true (lines_of (score_text count rows)) ≡ Read count
+  pub text_passes : first_bad count rows ≡ None → test_text score_table true (lines_of (score_text count rows)) ≡ Ok count
   unfolding test_text
   text_passes e =
       let n : 0 + count ≡ count = omega arith in
-      rw (text_lines count rows, names_held, names_fields, names_columns, five_names) (lines_pass count rows 0 h f e ∙ ap Read n)
+      rw (text_lines count rows, names_held, names_fields, names_columns, five_names) (lines_pass count rows 0 h f e ∙ ap (λ (k : ℕ). Ok k) n)

@@ -1,21 +1,11 @@
 -- Reading and writing together: the claim, case by case.
-use mathlib.Core.Path.{◌≡◌, refl, sym, ap, ◌∙◌}
-use mathlib.Core.Bool.{Bool, true, false}
-use mathlib.Core.List.{List, [], ◌∷◌, ◌++◌, map}
-use Prim.Native.Nat.{ℕ, zero, suc, ◌+◌, ◌*◌, ◌^◌, ◌≤◌, ◌<◌}
-use native.Mathlib.Nat.{mul_comm, zero-add}
-use native.Mathlib.Omega.{arith}
-use borrow.Author.Tests.{ne_eqb, eqb-true, eqb-false, le-ltb}
-use lib.Dec.{eqb}
-use lib.ListN.{length, get_or, take, drop}
-use lib.Seq.{take_at, take-take, take_all}
-use Rattle.score.specs.declared.refusal.Refusal.{Refusal}
+use Rattle.std.proofs.Common.{◌≡◌, refl, sym, ap, ◌∙◌, true, false, List, [], ◌∷◌, ◌++◌, map, ℕ, zero, suc, ◌+◌, ◌*◌, ◌^◌, ◌≤◌, ◌<◌, mul_comm, zero-add, arith, ne_eqb, le-ltb, eqb, length, get_or, take, drop, take_at, take-take, take_all, Ok, Err}
+use Rattle.score.specs.Numbers.{Tested, accepted}
 use Rattle.score.specs.Rows.{row_words, most_rows, wrong_rows}
 use Rattle.text.specs.Text.{Line, lines_of, first_of, rest_of, text_of, field_of, no_capital}
 use Rattle.names.specs.Sources.{holds_names, names_on, sources_by}
 use Rattle.values.specs.Lines.{rows_of}
-use Rattle.reader.specs.declared.ReadAnswer.TheVariants.{Read}
-use Rattle.reader.specs.Reading.{score_table, test_lines, text_rows, count_number, read_text, read_of}
+use Rattle.reader.specs.Reading.{score_table, test_lines, text_rows, test_count, read_text, read_of}
 use Rattle.reader.specs.Reading as reading
 use Rattle.lists.proofs.Cases.{both}
 use Rattle.lists.proofs.Places.{drop_of_take}
@@ -24,9 +14,9 @@ use Rattle.text.proofs.Joining.{each_ended, fields_on, text_of_lines}
 use Rattle.text.proofs.LowerDigits.{field_no_capital, each_lower, lines_lower, no_capital_text}
 use Rattle.reader.proofs.Accepted.{Settled, settled, accepted_passes}
 use Rattle.reader.proofs.Accepted as accepting
+use Rattle.reader.proofs.Testing as testing
 use Rattle.reader.proofs.Storing.{counted}
 use Rattle.reader.proofs.Settling.{settle_stored}
-use Rattle.writer.specs.declared.WriteAnswer.TheVariants.{Written, Refused}
 use Rattle.writer.specs.Writing.{text_bytes, names, row_lines, score_text, write_refusal, write_of, Outcome}
 use Rattle.writer.specs.Tidy.{rows_in, Tidied, Tidy, TidyWriter}
 use Rattle.writer.proofs.Lines.{text_long}
@@ -36,37 +26,28 @@ use Rattle.writer.proofs.AsItStood.{lines_ended, lines_back, named}
 use Rattle.writer.proofs.ReadBack.{Fit, fit_each, columns, text_lines, names_fields, names_columns, five_names, text_rows_lem, text_passes}
 
 -- ---- a score that was written
-same_bytes : (a b : ℕ) → Written a ≡ Written b → a ≡ b
-same_bytes a b e = cc
-
-not_written : (r : _) (n : ℕ) → Refused r ≡ Written n → ⊥
-not_written r n e = let z : ◌≡◌ {A = ℕ} 0 1 = cc in omega arith
-
 -- What is known of it: nothing refused it, and the bytes are its text.
 record Wrote (count : ℕ) (rows lent : List ℕ) (bytes : ℕ) : Type 0 where
   fine : Writable count rows lent
   is : take bytes (write_of count rows lent).text ≡ score_text count rows
 
 module _ (count : ℕ) (rows lent : List ℕ) (bytes : ℕ) where
-  wrote : (write_of count rows lent).answer ≡ Written bytes → Wrote count rows lent bytes
-  wrote e = go (eqb (write_refusal count rows lent).number 0) refl
+  wrote : (write_of count rows lent).answer ≡ Ok bytes → Wrote count rows lent bytes
+  wrote e = go (write_refusal count rows lent) refl
     where
-      go : (b : Bool) → eqb (write_refusal count rows lent).number 0 ≡ b → Wrote count rows lent bytes
-      go true z =
-          let n = eqb-true (write_refusal count rows lent).number 0 z in
+      go : (t : Tested) → write_refusal count rows lent ≡ t → Wrote count rows lent bytes
+      go (Ok u) n =
           let d = write_done count rows lent n in
-          let l = same_bytes _ bytes (ap (λ (o : Outcome). o.answer) d ∙ e) in
+          let l = testing.same_count _ bytes (ap (λ (o : Outcome). o.answer) d ∙ e) in
           record {
             fine = writable count rows lent n;
             is = ap (λ (o : Outcome). take bytes o.text) (sym d) ∙ take_at (score_text count rows) _ bytes l;
           }
-      go false z =
-          let n = eqb-false (write_refusal count rows lent).number 0 z in
-          absurd (not_written (write_refusal count rows lent) bytes (ap (λ (o : Outcome). o.answer) (write_refused count rows lent n) ∙ e))
+      go (Err r) n = absurd (testing.not_both r bytes (ap (λ (o : Outcome). o.answer) (write_refused count rows lent r n) ∙ e))
 
 -- ---- reading what was written
-count_right : (count words : ℕ) → 0 < count → count ≤ most_rows → count * row_words ≤ words → count_number true row_words count words ≡ 0
-unfolding count_number
+count_right : (count words : ℕ) → 0 < count → count ≤ most_rows → count * row_words ≤ words → test_count true row_words count words ≡ accepted
+unfolding test_count
 count_right count words l m h =
     let n : eqb count 0 ≡ false = ne_eqb count 0 (λ e. omega (arith, e)) in
     rw (n, le-ltb most_rows count m, le-ltb words (row_words * count) (omega (arith, mul_comm row_words count)))
@@ -75,9 +56,9 @@ five_entries : length score_table ≡ row_words
 unfolding score_table
 five_entries = refl
 
-reads_back : (count bytes : ℕ) (rows lent words : List ℕ) → ((i : ℕ) → get_or rows i 0 < 2 ^ 32) → (write_of count rows lent).answer ≡ Written bytes
+reads_back : (count bytes : ℕ) (rows lent words : List ℕ) → ((i : ℕ) → get_or rows i 0 < 2 ^ 32) → (write_of count rows lent).answer ≡ Ok bytes
     → count * row_words ≤ length words
-    → read_of (take bytes (write_of count rows lent).text) words ≡ reading.outcome (Read count) (take (count * row_words) rows ++ drop (count * row_words) words)
+    → read_of (take bytes (write_of count rows lent).text) words ≡ reading.outcome (Ok count) (take (count * row_words) rows ++ drop (count * row_words) words)
 unfolding read_of read_text
 reads_back count bytes rows lent words f e h =
     let w = wrote count rows lent bytes e in
@@ -85,19 +66,19 @@ reads_back count bytes rows lent words f e h =
     let fit = fit_each rows f in
     let passes = text_passes count rows c.rows_room fit (none_refused count rows w.fine.within) in
     let n = count_right count (length words) c.count_least c.count_most h in
-    let s = settle_stored true row_words (take (count * row_words) rows) words (Read count) count 0 refl (sym n) refl in
-    rw (w.is, passes, text_rows_lem count rows c.rows_room fit, five_entries) (sym s ∙ ap (λ (k : ℕ). reading.outcome (Read count) (take (count * row_words) rows ++ drop k words)) (mul_comm row_words count))
+    let s = settle_stored true row_words (take (count * row_words) rows) words (Ok count) count refl n in
+    rw (w.is, passes, text_rows_lem count rows c.rows_room fit, five_entries) (sym s ∙ ap (λ (k : ℕ). reading.outcome (Ok count) (take (count * row_words) rows ++ drop k words)) (mul_comm row_words count))
 
 -- ---- writing what was read
-writes : (text words lent : List ℕ) (count : ℕ) → (read_of text words).answer ≡ Read count → text_bytes count ≤ length lent
-    → (write_of count (read_of text words).rows lent).answer ≡ Written (text_bytes count)
+writes : (text words lent : List ℕ) (count : ℕ) → (read_of text words).answer ≡ Ok count → text_bytes count ≤ length lent
+    → (write_of count (read_of text words).rows lent).answer ≡ Ok (text_bytes count)
 writes text words lent count e h =
     let a = accepted_passes text words count e in
     let rows = (read_of text words).rows in
     let room : count * row_words ≤ length rows = omega (arith, a.space, a.long, mul_comm row_words count) in
     let w : wrong_rows 1 most_rows count (length rows) ≡ false = rw (le-ltb count 1 a.some, le-ltb most_rows count a.few, le-ltb (length rows) (count * row_words) room) in
-    let p = passes count rows lent w (ap (λ (r : Refusal). r.number) a.passes) h in
-    sym (ap (λ (o : Outcome). o.answer) (write_done count rows lent (ap (λ (r : Refusal). r.number) (sym p)))) ∙ ap Written (text_long count rows room)
+    let p = passes count rows lent w a.passes h in
+    sym (ap (λ (o : Outcome). o.answer) (write_done count rows lent (sym p))) ∙ ap (λ (k : ℕ). Ok k) (text_long count rows room)
 
 -- ---- only the words of the rows count
 lines_of_front : (count : ℕ) (rows : List ℕ) → row_lines count (take (count * row_words) rows) ≡ row_lines count rows
@@ -161,7 +142,7 @@ rows_lower (suc count) rows = rw (words_lower (take row_words rows)) (rows_lower
     words_lower [] = refl
     words_lower (w ∷ row) = rw (field_no_capital w) (words_lower row)
 
-tidies : (count bytes : ℕ) (rows lent : List ℕ) → (write_of count rows lent).answer ≡ Written bytes → Tidy (take bytes (write_of count rows lent).text)
+tidies : (count bytes : ℕ) (rows lent : List ℕ) → (write_of count rows lent).answer ≡ Ok bytes → Tidy (take bytes (write_of count rows lent).text)
 unfolding score_text names score_table no_capital
 tidies count bytes rows lent e =
     let w = wrote count rows lent bytes e in
@@ -178,10 +159,10 @@ module _ (text tidy : List ℕ) (d : Tidy text) (t : Tidied text tidy) where
   abbrev later : List Line
   later = rest_of lines
 
-  by_names : (holds_names score_table (first_of lines) ≡ true) × (test_lines (names_on lines) (sources_by score_table lines) true 0 later ≡ Read t.count)
+  by_names : (holds_names score_table (first_of lines) ≡ true) × (test_lines (names_on lines) (sources_by score_table lines) true 0 later ≡ Ok t.count)
   by_names = accepting.text_passes lines t.count (read text tidy t).tested
 
-  by_columns : test_lines row_words columns true 0 later ≡ Read t.count
+  by_columns : test_lines row_words columns true 0 later ≡ Ok t.count
   by_columns = rw (d.in_order, names_columns, five_names) at by_names.1
 
   its_fields : fields_on lines ≡ names ∷ fields_on later

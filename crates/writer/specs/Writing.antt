@@ -1,9 +1,9 @@
 -- Document 02, "A tidy writer": the text of a score, the refusals in their order, and what a call leaves.
-use Rattle.std.specs.Prelude.{ℕ, zero, suc, ◌+◌, ◌*◌, not, cond, List, [], ◌∷◌, ◌++◌, map, length, take, drop, ltb, eqb}
+use Rattle.std.proofs.Common.{ℕ, zero, suc, ◌+◌, ◌*◌, cond, List, [], ◌∷◌, ◌++◌, map, length, take, drop, ltb, Result, Ok, Err}
+use Rattle.std.specs.Result.{result_and}
 use Rattle.score.specs.declared.refusal.Refusal.{Refusal}
-use Rattle.writer.specs.declared.WriteAnswer.{WriteAnswer}
-use Rattle.writer.specs.declared.WriteAnswer.TheVariants.{Written, Refused}
-use Rattle.score.specs.Numbers.{refusal, accepted, rows_number, paper_number, Result, done, refused}
+use Rattle.score.specs.declared.refusal.Refusal.TheVariants.{Rows, Paper}
+use Rattle.score.specs.Numbers.{Tested, accepted, CallResult, done, refused}
 use Rattle.score.specs.Rows.{row_words, most_rows, wrong_rows}
 use Rattle.score.specs.Limits.{limit_refusal}
 use Rattle.text.specs.Text.{text_of, field_of}
@@ -38,31 +38,38 @@ text_bytes count = names_bytes + count * row_bytes
 -- ---- what a call refuses
 
 -- "The writer checks rows as rendering does, with 6 and then 9"; 14, "lent text shorter than the score needs, tested after 9"
-unfoldable pub write_refusal : ℕ → List ℕ → List ℕ → Refusal
+unfoldable pub write_refusal : ℕ → List ℕ → List ℕ → Tested
 write_refusal count rows lent =
-    let limit = limit_refusal count rows in
-    cond (wrong_rows 1 most_rows count (length rows)) (refusal rows_number 0)
-    (cond (not (eqb limit.number 0)) limit
-    (cond (ltb (length lent) (length (score_text count rows))) (refusal paper_number 0) accepted))
+    cond (wrong_rows 1 most_rows count (length rows)) (Err Rows)
+    (result_and (limit_refusal count rows)
+    (cond (ltb (length lent) (length (score_text count rows))) (Err Paper) accepted))
 
 -- ---- what a call leaves
 
+-- What writing answers: the number of bytes, or a refusal.
+abbrev pub Answer : Type 0
+Answer = Result ℕ Refusal
+
 -- A call's answer, and the lent text as it leaves it.
 pub record Outcome : Type 0 where
-  pub answer : WriteAnswer
+  pub answer : Answer
   pub text : List ℕ
 
-abbrev pub outcome : WriteAnswer → List ℕ → Outcome
+abbrev pub outcome : Answer → List ℕ → Outcome
 outcome answer text = record { answer = answer; text = text }
 
 -- "Success carries the byte count."
-unfoldable pub result_of : WriteAnswer → Result
-result_of (Written bytes) = done (bytes ∷ [])
-result_of (Refused r) = refused r
+unfoldable pub result_of : Answer → CallResult
+result_of (Ok bytes) = done (bytes ∷ [])
+result_of (Err r) = refused r
+
+-- What a call comes to that a test allows.
+abbrev pub allowed : Tested → Outcome → List ℕ → Outcome
+allowed (Ok _) left lent = left
+allowed (Err r) left lent = outcome (Err r) lent
 
 -- Writing a score: "bytes past it stay", and a refused call changes no lent buffer.
 unfoldable pub write_of : ℕ → List ℕ → List ℕ → Outcome
 write_of count rows lent =
-    let r = write_refusal count rows lent in
     let text = score_text count rows in
-    cond (eqb r.number 0) (outcome (Written (length text)) (text ++ drop (length text) lent)) (outcome (Refused r) lent)
+    allowed (write_refusal count rows lent) (outcome (Ok (length text)) (text ++ drop (length text) lent)) lent

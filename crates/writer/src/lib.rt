@@ -7,25 +7,15 @@ ghost use Rattle.text.specs.Text.{line_of, text_of, field_of};
 ghost use Rattle.values.specs.Inner.{field_bytes};
 ghost use Rattle.writer.specs.Writing.{names, row_lines, names_bytes, row_bytes, text_bytes, write_refusal, outcome, write_of};
 
-use formats::put_text;
-use reader::SCORE_NAMES;
-use score::limits::limit_refusal;
-use score::refusal::{PAPER, ROWS, Refusal, accepted};
+use score::limits::within_limits;
+use score::refusal::Refusal;
 use score::rows::{MOST_ROWS, ROW_WORDS, wrong_rows};
 use text::pieces::{LF, SPACE};
 use text::word::{WORD_DIGITS, put_word};
 use values::FIELD;
 
-// What writing a score gives.
-#[derive(Clone, Copy)]
-pub enum WriteAnswer {
-    // The number of bytes.
-    Written(usize),
-    Refused(Refusal),
-}
-
-// The bytes of the line of names.
-const NAMES_LINE: usize = SCORE_NAMES.len() + 1;
+// The line of names, in row order.
+const NAMES_LINE: [u8; 36] = *b"note timbre morph harmonics restart\n";
 
 // The bytes of a row's line.
 const ROW_LINE: usize = ROW_WORDS * FIELD;
@@ -35,8 +25,7 @@ fn put_names(text: &mut [u8])
     requires { length text.old ≡ names_bytes }
     ensures { text.new ≡ line_of names }
 {
-    let end = put_text(&SCORE_NAMES, text, 0);
-    text[end] = LF;
+    text.copy_from_slice(&NAMES_LINE);
 }
 
 // A word and the byte after it, in the place of as many bytes.
@@ -54,16 +43,14 @@ fn put_line(row: &[u32], text: &mut [u8])
     ensures { text.new ≡ line_of (map field_of row.now) }
 {
     let last = row.len() - 1;
-    let mut k = 0;
-    while k < last {
+    for k in 0..last {
         let a = k * FIELD;
         let e = a + FIELD;
         put_field(row[k], SPACE, &mut text[a..e]);
-        k += 1;
     }
-    let a = k * FIELD;
+    let a = last * FIELD;
     let e = a + FIELD;
-    put_field(row[k], LF, &mut text[a..e]);
+    put_field(row[last], LF, &mut text[a..e]);
 }
 
 // The lines of the first `count` rows, in the place of as many bytes.
@@ -71,14 +58,12 @@ fn put_rows(rows: &[u32], count: usize, text: &mut [u8])
     requires { (count * row_words ≤ length rows.now) × (length text.old ≡ count * row_bytes) }
     ensures { text.new ≡ text_of (row_lines count rows.now) }
 {
-    let mut k = 0;
-    while k < count {
+    for k in 0..count {
         let a = k * ROW_WORDS;
         let e = a + ROW_WORDS;
         let b = k * ROW_LINE;
         let f = b + ROW_LINE;
         put_line(&rows[a..e], &mut text[b..f]);
-        k += 1;
     }
 }
 
@@ -87,42 +72,30 @@ fn text_bytes(count: usize) -> usize
     requires { count ≤ most_rows }
     ensures { result ≡ text_bytes count }
 {
-    NAMES_LINE + count * ROW_LINE
+    NAMES_LINE.len() + count * ROW_LINE
 }
 
 // What writing refuses.
-fn write_refusal(rows: &[u32], count: usize, text: &[u8]) -> Refusal
+fn write_refusal(rows: &[u32], count: usize, text: &[u8]) -> Result<(), Refusal>
     ensures { result ≡ write_refusal count rows.now text.now }
 {
     if wrong_rows(1, MOST_ROWS, count, rows.len()) {
-        return Refusal {
-            number: ROWS,
-            place: 0,
-        };
+        return Err(Refusal::Rows);
     }
-    let limit = limit_refusal(rows, count);
-    if limit.number != 0 {
-        return limit;
-    }
+    within_limits(rows, count)?;
     if text.len() < text_bytes(count) {
-        return Refusal {
-            number: PAPER,
-            place: 0,
-        };
+        return Err(Refusal::Paper);
     }
-    accepted()
+    Ok(())
 }
 
 // Writes the first `count` rows as a score's text.
-pub fn write(rows: &[u32], count: usize, text: &mut [u8]) -> WriteAnswer
+pub fn write(rows: &[u32], count: usize, text: &mut [u8]) -> Result<usize, Refusal>
     ensures { outcome result text.new ≡ write_of count rows.now text.old }
 {
-    let refusal = write_refusal(rows, count, text);
-    if refusal.number != 0 {
-        return WriteAnswer::Refused(refusal);
-    }
+    write_refusal(rows, count, text)?;
     let bytes = text_bytes(count);
-    put_names(&mut text[0..NAMES_LINE]);
-    put_rows(rows, count, &mut text[NAMES_LINE..bytes]);
-    WriteAnswer::Written(bytes)
+    put_names(&mut text[0..NAMES_LINE.len()]);
+    put_rows(rows, count, &mut text[NAMES_LINE.len()..bytes]);
+    Ok(bytes)
 }

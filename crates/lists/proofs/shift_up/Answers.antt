@@ -1,7 +1,5 @@
 -- `shift_up` moves the words of the parts.
-use Prim.Native.Nat.{◌+◌}
-use native.Mathlib.Nat.{mul-le-mul_right}
-use native.Mathlib.Omega.{arith}
+use Rattle.std.proofs.Common.{◌+◌, mul-le-mul_right, arith}
 use Rattle.lists.proofs.Moving.{shifted_up}
 use Rattle.lists.proofs.Places.{part_end}
 use Rattle.lists.proofs.shift_up.Goals as goal

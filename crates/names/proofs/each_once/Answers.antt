@@ -1,41 +1,25 @@
--- `each_once` tests source after source: what is left of them decides.
-use native.Mathlib.Omega.{arith}
-use mathlib.Core.Path.{◌≡◌, sym, ◌∙◌}
-use lib.ListN.{length, get_or}
-use lib.Seq.{length-take-le}
-use borrow.Author.Rules.{rules}
-use Rattle.names.specs.declared.Source.TheVariants.{Column}
-use Rattle.names.proofs.Names.{source_at_lem, one_at_most, tests, tests_on, unreadable, tested}
+-- Each source is readable, and as many are columns as the line has fields.
+use Rattle.std.proofs.Common.{rules, tests, sym, ◌∙◌}
+use Rattle.std.proofs.lemmas.Iterator.{YieldsList-from_slice}
+use Rattle.std.proofs.lemmas.Iterator.Consumers.{YieldsList-from_filter, count_from_yields_List}
+use Rattle.std.proofs.lemmas.Iterator.Search.{all_from_yields_List}
+use Rattle.std.proofs.lemmas.List.Sums.{length-filter}
+use Rattle.names.specs.Sources.{readable, is_column, each_readable, column_count, each_once}
 use Rattle.names.proofs.each_once.Goals as goal
 
-pub loop-k-init : goal.loop-k-init
-loop-k-init c = tests _ _
+pub returns-then-all : goal.returns-then-all
+unfolding each_readable column_count each_once
+returns-then-all c =
+    let a = c.args in
+    let all = all_from_yields_List (readable a.count) _ _ c.all.result c.all.ensures.ran (YieldsList-from_slice a.sources.now cc) (λ x b q k. search (rules, tests)) in
+    let columns = count_from_yields_List c.filter.result _ c.count-columns.ensures.ran
+    (YieldsList-from_filter _ is_column (YieldsList-from_slice a.sources.now cc) c.filter.ensures.closure (λ x b q k. search (rules, tests)))
+    ∙ length-filter is_column a.sources.now in
+    rw (columns, sym all, c.if-all.true)
 
-pub returns-then-not-readable : goal.returns-then-not-readable
-returns-then-not-readable c =
-    let l = c.loop-k in
-    let six : length c.args.sources ≡ 6 = search rules in
-    let d = source_at_lem c.args.sources _ _ (omega arith) c.loop-k-test.true in
-    unreadable _ _ _ _ l.invariant _ d (sym c.readable.ensures ∙ c.if-not-readable.true)
-
-pub overflow_add-columns : goal.overflow_add-columns
-overflow_add-columns c =
-    let l = c.loop-k in
-    let one = one_at_most (get_or c.args.sources l.k (Column 0)) in
-    omega (arith, l.invariant.few, c.columns_in-columns.ensures, c.loop-k-test.true, c.requires)
-
-pub loop-k-preserved : goal.loop-k-preserved
-loop-k-preserved c =
-    let l = c.loop-k in
-    let six : length c.args.sources ≡ 6 = search rules in
-    let h = c.loop-k-test.true in
-    let d = source_at_lem c.args.sources _ _ (omega arith) h in
-    let n = length-take-le c.args.width c.args.sources (omega (arith, c.requires)) in
-    let r = sym c.readable.ensures ∙ c.if-not-readable.false in
-    rw c.columns_in-columns.ensures (tests_on _ _ _ _ l.invariant _ d (omega (arith, n, h)) r)
-
-pub returns : goal.returns
-returns c =
-    let l = c.loop-k in
-    let six : length c.args.sources ≡ 6 = search rules in
-    tested _ _ _ _ l.invariant (omega (arith, length-take-le c.args.width c.args.sources (omega (arith, c.requires))))
+pub returns-else-all : goal.returns-else-all
+unfolding each_readable column_count each_once
+returns-else-all c =
+    let a = c.args in
+    let all = all_from_yields_List (readable a.count) _ _ c.all.result c.all.ensures.ran (YieldsList-from_slice a.sources.now cc) (λ x b q k. search (rules, tests)) in
+    rw (sym all, c.if-all.false)

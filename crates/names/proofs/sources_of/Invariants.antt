@@ -1,12 +1,9 @@
--- `sources_of` looks up name after name: the sources stored and those of the names from `from` on are all.
-use Prim.Native.Nat.{◌+◌, ◌-◌}
-use lib.ListN.{length}
+-- The sources so far.
 use Rattle.text.specs.Text.{fields_of}
-use Rattle.names.proofs.Names.{Placed}
+use Rattle.names.specs.Sources.{source_of}
+use Rattle.names.specs.Inner.{entry_of}
+use Rattle.names.proofs.Mapped.{Mapped}
 use Rattle.names.proofs.sources_of.Given as goal
 
-abbrev pub invariant-loop-from : goal.invariant-loop-from
-invariant-loop-from l = Placed l.names (fields_of l.line) l.initial.sources l.sources l.from l.k
-
-abbrev pub decreases-loop-from : goal.decreases-loop-from
-decreases-loop-from l = length l.names + 1 - l.from
+abbrev pub invariant-loop-k : goal.invariant-loop-k
+invariant-loop-k g l = Mapped (λ e. source_of (fields_of l.line) (entry_of e)) l.table l.sources l.k

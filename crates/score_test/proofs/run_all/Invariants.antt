@@ -1,6 +1,5 @@
--- `score_test::run_all` is safe and ends.
-use Prim.Native.Nat.{◌-◌, ◌≤◌}
-use lib.ListN.{length}
+-- `run_all` is safe and ends.
+use Rattle.std.proofs.Common.{length, ◌-◌, ◌≤◌}
 use Rattle.score_test.proofs.run_all.Given as goal
 
 abbrev pub invariant-loop-from : goal.invariant-loop-from

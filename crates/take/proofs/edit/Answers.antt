@@ -1,17 +1,21 @@
 -- `edit` is `call_of`: refused, or done.
-use Rattle.refusals.specs.Calls.{edit}
-use Rattle.take.proofs.Calls.{answers_refused, is_accepted, answers_done, edit_retakable}
+use Rattle.std.proofs.Common.{sym, ◌∙◌}
+use Rattle.std.proofs.lemmas.Result.{err_from_is_err_and}
+use Rattle.refusals.specs.declared.Call.TheVariants.{Edit}
+use Rattle.refusals.proofs.Accepted.{accepted}
+use Rattle.take.proofs.Calls.{answers_refused, answers_done, edit_retakable}
 use Rattle.take.proofs.edit.Goals as goal
 
-pub returns-then-refused_edit-ne0 : goal.returns-then-refused_edit-ne0
-returns-then-refused_edit-ne0 c =
-    answers_refused _ _ _ _ (edit c.args.position c.args.row) _ c.edit_refusal-refused_edit.ensures c.if-refused_edit-ne0.true
+pub returns-in_err-check-clause-call : goal.returns-in_err-check-clause-call
+returns-in_err-check-clause-call c =
+    let p = err_from_is_err_and c.from_residual.result c.from_residual.ensures.1 in
+    rw (p.1, p.2) (answers_refused _ _ _ _ (Edit c.args.position c.args.row) _ (sym c.check.ensures ∙ c.in_err-check.was))
 
-pub retake-retaken-requires : goal.retake-retaken-requires
-retake-retaken-requires c =
-    let a = is_accepted _ _ _ _ (edit c.args.position c.args.row) _ c.edit_refusal-refused_edit.ensures c.if-refused_edit-ne0.false in
+pub retake-requires : goal.retake-requires
+retake-requires c =
+    let a = accepted _ _ _ _ (Edit c.args.position c.args.row) (sym c.check.ensures ∙ c.in_ok-check.was) in
     record { lent = a.lent_right.tables; retakable = edit_retakable _ _ _ _ _ _ a }
 
-pub returns : goal.returns
-returns c =
-    answers_done _ _ _ _ (edit c.args.position c.args.row) _ c.edit_refusal-refused_edit.ensures c.if-refused_edit-ne0.false _ _ _ c.retake-retaken.ensures
+pub returns-clause-call : goal.returns-clause-call
+returns-clause-call c =
+    answers_done _ _ _ _ (Edit c.args.position c.args.row) (sym c.check.ensures ∙ c.in_ok-check.was) _ _ _ c.retake.ensures.done

@@ -1,17 +1,21 @@
 -- `insert` is `call_of`: refused, or done.
-use Rattle.refusals.specs.Calls.{insert}
-use Rattle.take.proofs.Calls.{answers_refused, is_accepted, answers_done, insert_insertable}
+use Rattle.std.proofs.Common.{sym, ◌∙◌}
+use Rattle.std.proofs.lemmas.Result.{err_from_is_err_and}
+use Rattle.refusals.specs.declared.Call.TheVariants.{Insert}
+use Rattle.refusals.proofs.Accepted.{accepted}
+use Rattle.take.proofs.Calls.{answers_refused, answers_done, insert_insertable}
 use Rattle.take.proofs.insert.Goals as goal
 
-pub returns-then-refused_insert-ne0 : goal.returns-then-refused_insert-ne0
-returns-then-refused_insert-ne0 c =
-    answers_refused _ _ _ _ (insert c.args.position c.args.row) _ c.insert_refusal-refused_insert.ensures c.if-refused_insert-ne0.true
+pub returns-in_err-check-clause-call : goal.returns-in_err-check-clause-call
+returns-in_err-check-clause-call c =
+    let p = err_from_is_err_and c.from_residual.result c.from_residual.ensures.1 in
+    rw (p.1, p.2) (answers_refused _ _ _ _ (Insert c.args.position c.args.row) _ (sym c.check.ensures ∙ c.in_err-check.was))
 
-pub put_in-report-requires : goal.put_in-report-requires
-put_in-report-requires c =
-    let a = is_accepted _ _ _ _ (insert c.args.position c.args.row) _ c.insert_refusal-refused_insert.ensures c.if-refused_insert-ne0.false in
+pub put_in-requires : goal.put_in-requires
+put_in-requires c =
+    let a = accepted _ _ _ _ (Insert c.args.position c.args.row) (sym c.check.ensures ∙ c.in_ok-check.was) in
     record { lent = a.lent_right.tables; insertable = insert_insertable _ _ _ _ _ _ a }
 
-pub returns : goal.returns
-returns c =
-    answers_done _ _ _ _ (insert c.args.position c.args.row) _ c.insert_refusal-refused_insert.ensures c.if-refused_insert-ne0.false _ _ _ c.put_in-report.ensures
+pub returns-clause-call : goal.returns-clause-call
+returns-clause-call c =
+    answers_done _ _ _ _ (Insert c.args.position c.args.row) (sym c.check.ensures ∙ c.in_ok-check.was) _ _ _ c.put_in.ensures.done

@@ -1,5 +1,5 @@
 -- `put_in` is an accepted insertion: its row put between, its place made, and its run.
-use native.Mathlib.Omega.{arith}
+use Rattle.std.proofs.Common.{arith}
 use Rattle.take.proofs.Calls.{holding_still, insert_does}
 use Rattle.take.proofs.put_in.Goals as goal
 
@@ -7,10 +7,10 @@ pub run-requires : goal.run-requires
 run-requires c =
     record {
       lent = c.requires.lent;
-      holding = holding_still _ _ _ _ _ _ c.insert_row.auto.rows c.make_room.auto.out c.make_room.auto.aux c.make_room.auto.kept c.requires.insertable.holding;
+      holding = holding_still _ _ _ _ _ _ c.insert_row.auto.rows c.make_room.ensures.lengths c.requires.insertable.holding;
       from_lt_to = (omega arith, omega (arith, c.requires.insertable.positioned));
     }
 
-pub returns : goal.returns
-returns c =
-    insert_does _ _ _ _ _ _ _ _ _ _ c.insert_row.ensures c.make_room.ensures c.run.ensures
+pub returns-clause-done : goal.returns-clause-done
+returns-clause-done c =
+    insert_does _ _ _ _ _ _ _ _ _ _ c.insert_row.ensures c.make_room.ensures.room c.run.ensures.done

@@ -1,17 +1,21 @@
 -- `remove` is `call_of`: refused, or done.
-use Rattle.refusals.specs.Calls.{remove}
-use Rattle.take.proofs.Calls.{answers_refused, is_accepted, answers_done, remove_removable}
+use Rattle.std.proofs.Common.{sym, ◌∙◌}
+use Rattle.std.proofs.lemmas.Result.{err_from_is_err_and}
+use Rattle.refusals.specs.declared.Call.TheVariants.{Remove}
+use Rattle.refusals.proofs.Accepted.{accepted}
+use Rattle.take.proofs.Calls.{answers_refused, answers_done, remove_removable}
 use Rattle.take.proofs.remove.Goals as goal
 
-pub returns-then-refused_remove-ne0 : goal.returns-then-refused_remove-ne0
-returns-then-refused_remove-ne0 c =
-    answers_refused _ _ _ _ (remove c.args.position) _ c.remove_refusal-refused_remove.ensures c.if-refused_remove-ne0.true
+pub returns-in_err-check-clause-call : goal.returns-in_err-check-clause-call
+returns-in_err-check-clause-call c =
+    let p = err_from_is_err_and c.from_residual.result c.from_residual.ensures.1 in
+    rw (p.1, p.2) (answers_refused _ _ _ _ (Remove c.args.position) _ (sym c.check.ensures ∙ c.in_err-check.was))
 
-pub take_out-report-requires : goal.take_out-report-requires
-take_out-report-requires c =
-    let a = is_accepted _ _ _ _ (remove c.args.position) _ c.remove_refusal-refused_remove.ensures c.if-refused_remove-ne0.false in
+pub take_out-requires : goal.take_out-requires
+take_out-requires c =
+    let a = accepted _ _ _ _ (Remove c.args.position) (sym c.check.ensures ∙ c.in_ok-check.was) in
     record { lent = a.lent_right.tables; removable = remove_removable _ _ _ _ _ a }
 
-pub returns : goal.returns
-returns c =
-    answers_done _ _ _ _ (remove c.args.position) _ c.remove_refusal-refused_remove.ensures c.if-refused_remove-ne0.false _ _ _ c.take_out-report.ensures
+pub returns-clause-call : goal.returns-clause-call
+returns-clause-call c =
+    answers_done _ _ _ _ (Remove c.args.position) (sym c.check.ensures ∙ c.in_ok-check.was) _ _ _ c.take_out.ensures.done

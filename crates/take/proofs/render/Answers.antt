@@ -1,18 +1,22 @@
 -- `render` is `call_of`, by its test and its run.
-use native.Mathlib.Nat.{le_refl}
-use Rattle.refusals.specs.Calls.{render}
-use Rattle.take.proofs.Calls.{answers_refused, is_accepted, answers_done, render_holding, render_does}
+use Rattle.std.proofs.Common.{sym, ◌∙◌, le_refl}
+use Rattle.std.proofs.lemmas.Result.{err_from_is_err_and}
+use Rattle.refusals.specs.declared.Call.TheVariants.{Render}
+use Rattle.refusals.proofs.Accepted.{accepted}
+use Rattle.take.proofs.Calls.{answers_refused, answers_done, render_holding, render_does}
 use Rattle.take.proofs.render.Goals as goal
 
-pub returns-then-refused-ne0 : goal.returns-then-refused-ne0
-returns-then-refused-ne0 c = answers_refused _ _ _ _ render _ c.render_refusal-refused.ensures c.if-refused-ne0.true
+pub returns-in_err-check-clause-call : goal.returns-in_err-check-clause-call
+returns-in_err-check-clause-call c =
+    let p = err_from_is_err_and c.from_residual.result c.from_residual.ensures.1 in
+    rw (p.1, p.2) (answers_refused _ _ _ _ Render _ (sym c.check.ensures ∙ c.in_err-check.was))
 
-pub run-report-requires : goal.run-report-requires
-run-report-requires c =
-    let a = is_accepted _ _ _ _ render _ c.render_refusal-refused.ensures c.if-refused-ne0.false in
+pub run-requires : goal.run-requires
+run-requires c =
+    let a = accepted _ _ _ _ Render (sym c.check.ensures ∙ c.in_ok-check.was) in
     let h = render_holding _ _ _ _ a in
     record { lent = a.lent_right.tables; holding = h.1; from_lt_to = (h.0, le_refl _) }
 
-pub returns : goal.returns
-returns c =
-    answers_done _ _ _ _ render _ c.render_refusal-refused.ensures c.if-refused-ne0.false _ _ _ (render_does _ _ _ _ _ _ c.run-report.ensures)
+pub returns-clause-call : goal.returns-clause-call
+returns-clause-call c =
+    answers_done _ _ _ _ Render (sym c.check.ensures ∙ c.in_ok-check.was) _ _ _ (render_does _ _ _ _ _ _ c.run.ensures.done)

@@ -1,19 +1,9 @@
 -- A reading of the map: its place is that of the true whole parts, by the law of `Places`, and four entries stand there.
-use lib.Ieee.{of_bits}
+use Rattle.std.specs.Float.Ieee.{of_bits}
 use Rattle.words.specs.Binary32.{decimal}
 use Rattle.terrain.specs.Heights.{terrain_lookup}
-use native.Mathlib.Omega.{arith}
-use Rattle.terrain.proofs.Places.{place_most, map_place_of, coord_scale_lem}
+use Rattle.terrain.proofs.Places.{map_place_of, coord_scale_lem}
 use Rattle.terrain.proofs.terrain_lookup.Goals as goal
-
-pub interpolate_wave_u8-near-requires : goal.interpolate_wave_u8-near-requires
-interpolate_wave_u8-near-requires c = omega (arith, place_most _ _ _ _ c.held_place-place.ensures)
-
-pub overflow_add-place : goal.overflow_add-place
-overflow_add-place c = record { fits = omega (arith, place_most _ _ _ _ c.held_place-place.ensures) }
-
-pub interpolate_wave_u8-far-requires : goal.interpolate_wave_u8-far-requires
-interpolate_wave_u8-far-requires c = omega (arith, place_most _ _ _ _ c.held_place-place.ensures)
 
 pub returns : goal.returns
 unfolding terrain_lookup of_bits decimal
@@ -21,4 +11,4 @@ returns c =
     let cy = c.coordinate_at-cy.ensures in
     let cx = c.coordinate_at-cx.ensures in
     let place = map_place_of _ _ _ _ _ c.held_place-place.ensures cx.whole_value cy.whole_value in
-    rw (coord_scale_lem, c.interpolate_wave_u8-far.ensures, c.interpolate_wave_u8-near.ensures, place, cx.fraction_value, cy.fraction_value)
+    rw (coord_scale_lem, c.interpolate_wave-far.ensures, c.interpolate_wave-near.ensures, place, cx.fraction_value, cy.fraction_value)

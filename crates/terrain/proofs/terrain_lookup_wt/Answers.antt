@@ -1,20 +1,10 @@
 -- A reading of the bank: its place is that of the true whole parts, by the law of `Places`, and six entries stand there.
-use lib.Ieee.{of_bits}
+use Rattle.std.specs.Float.Ieee.{of_bits}
 use Rattle.words.specs.Binary32.{decimal}
 use Rattle.terrain.specs.Heights.{terrain_lookup_wt}
-use native.Mathlib.Omega.{arith}
-use Rattle.terrain.proofs.Places.{place_most, bank_place_of, last_wave}
+use Rattle.terrain.proofs.Places.{bank_place_of, last_wave}
 use Rattle.oscillator.proofs.Sizes.{period_float}
 use Rattle.terrain.proofs.terrain_lookup_wt.Goals as goal
-
-pub interpolate_integrated_wave-near-requires : goal.interpolate_integrated_wave-near-requires
-interpolate_integrated_wave-near-requires c = omega (arith, place_most _ _ _ _ c.held_place-place.ensures)
-
-pub overflow_add-place : goal.overflow_add-place
-overflow_add-place c = record { fits = omega (arith, place_most _ _ _ _ c.held_place-place.ensures) }
-
-pub interpolate_integrated_wave-far-requires : goal.interpolate_integrated_wave-far-requires
-interpolate_integrated_wave-far-requires c = omega (arith, place_most _ _ _ _ c.held_place-place.ensures)
 
 pub returns : goal.returns
 unfolding terrain_lookup_wt of_bits decimal

@@ -1,12 +1,5 @@
--- `values::holds_words` meets its contract: the words that are left decide.
-use mathlib.Core.Path.{◌≡◌, refl, sym, ap, ◌∙◌}
-use mathlib.Core.Bool.{true, false}
-use mathlib.Core.List.{List}
-use Prim.Native.Nat.{ℕ, zero, suc, ◌+◌, ◌-◌, ◌≤◌, ◌<◌}
-use native.Mathlib.Omega.{arith}
-use borrow.Author.Rules.{rules}
-use lib.ListN.{length, drop, length-drop}
-use lib.Seq.{drop-drop}
+-- The words that are left decide.
+use Rattle.std.proofs.Common.{◌≡◌, refl, sym, ap, ◌∙◌, true, false, List, ℕ, zero, suc, ◌+◌, ◌-◌, ◌≤◌, ◌<◌, arith, rules, length, drop, length-drop, drop-drop}
 use Rattle.text.specs.Text.{space, lines_of, first_of}
 use Rattle.values.specs.Lines.{holds_words}
 use Rattle.values.specs.Inner.{field_bytes, starts_word, line_at}
@@ -26,24 +19,29 @@ module _ (text : List ℕ) (at : ℕ) where
   words_left zero h e = absurd (omega arith)
   words_left (suc left) h e = let n : suc left - 1 ≡ left = omega arith in rw (n, sym (drop-drop field_bytes at text)) (words_on (drop at text) e left)
 
-pub loop-left-init : goal.loop-left-init
-loop-left-init c = (search rules, search rules, refl)
+pub loop-k-init : goal.loop-k-init
+loop-k-init c = let n : c.args.count + 1 - 1 ≡ c.args.count = omega arith in record { inside = search rules; left = rw n refl }
 
 pub returns-then-not-word_then : goal.returns-then-not-word_then
 returns-then-not-word_then c =
-    sym (c.loop-left.invariant.2 ∙ no-words-left _ _ c.loop-left-test.true (sym c.word_then.ensures ∙ c.if-not-word_then.true))
+    sym (c.loop-k.invariant.left ∙ no-words-left _ _ (omega arith) (sym c.word_then.ensures ∙ c.if-not-word_then.true))
 
 pub overflow_add-at : goal.overflow_add-at
-overflow_add-at c =
-    omega (arith, goes_on c.args.text.now c.loop-left.at (sym c.word_then.ensures ∙ c.if-not-word_then.false))
+overflow_add-at c = omega (arith, goes_on c.args.text.now c.loop-k.at (sym c.word_then.ensures ∙ c.if-not-word_then.false))
 
-pub loop-left-preserved : goal.loop-left-preserved
-loop-left-preserved c =
+pub loop-k-preserved : goal.loop-k-preserved
+loop-k-preserved c =
     let t = c.args.text.now in
+    let l = c.loop-k in
     let e = sym c.word_then.ensures ∙ c.if-not-word_then.false in
-    (omega (arith, goes_on t c.loop-left.at e), search rules, c.loop-left.invariant.2 ∙ words_left t c.loop-left.at c.loop-left.left c.loop-left-test.true e)
+    let n : c.args.count + 1 - (l.k + 1) ≡ c.args.count + 1 - l.k - 1 = omega arith in
+    record {
+      inside = omega (arith, goes_on t l.at e);
+      left = l.invariant.left ∙ words_left t l.at (c.args.count + 1 - l.k) (omega arith) e ∙ ap (λ m. holds_words m (line_at t (l.at + field_bytes))) (sym n);
+    }
 
 pub returns : goal.returns
 returns c =
-    let one : c.loop-left.left ≡ 1 = omega arith in
-    c.word_then-2.ensures ∙ sym (c.loop-left.invariant.2 ∙ ap (λ n. holds_words n (line_at c.args.text.now c.loop-left.at)) one ∙ last_word _)
+    let l = c.loop-k in
+    let one : c.args.count + 1 - l.k ≡ 1 = omega arith in
+    c.word_then-2.ensures ∙ sym (l.invariant.left ∙ ap (λ n. holds_words n (line_at c.args.text.now l.at)) one ∙ last_word _)

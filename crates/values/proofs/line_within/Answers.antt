@@ -1,5 +1,5 @@
 -- `line_within` tests the row that `write_row` left.
-use mathlib.Core.Path.{ap, ◌∙◌}
+use Rattle.std.proofs.Common.{ap, ◌∙◌}
 use Rattle.score.specs.Limits.{row_within}
 use Rattle.values.proofs.line_within.Goals as goal
 

@@ -1,13 +1,5 @@
 -- `values::word_then` meets its contract, test by test.
-use mathlib.Core.Path.{◌≡◌, sym}
-use mathlib.Core.Bool.{false, ◌&&◌}
-use mathlib.Core.List.{List}
-use Prim.Native.Nat.{ℕ, ◌+◌, ◌-◌, ◌≤◌, ◌<◌}
-use native.Mathlib.Omega.{arith}
-use borrow.Author.Tests.{lt-ltb, le-ltb}
-use lib.Dec.{eqb}
-use lib.ListN.{length, get_or, take, drop, length-drop}
-use lib.Seq.{get_or-drop}
+use Rattle.std.proofs.Common.{◌≡◌, sym, false, ◌&&◌, List, ℕ, ◌+◌, ◌-◌, ◌≤◌, ◌<◌, arith, lt-ltb, le-ltb, eqb, length, get_or, take, drop, length-drop, get_or-drop}
 use Rattle.text.specs.Text.{word_digits, is_word}
 use Rattle.values.specs.Inner.{starts_word}
 use Rattle.values.proofs.word_then.Goals as goal

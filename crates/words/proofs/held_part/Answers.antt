@@ -1,6 +1,6 @@
 -- `words::held_part` meets its contract.
-use mathlib.Core.Path.{ap}
-use lib.Ieee.{Float, of_bits}
+use Rattle.std.proofs.Common.{ap, Float}
+use Rattle.std.specs.Float.Ieee.{of_bits}
 use Rattle.words.specs.Binary32.{◌⊕◌, decimal}
 use Rattle.words.specs.Inner.{half}
 use Rattle.words.proofs.held_part.Goals as goal

@@ -1,6 +1,5 @@
 -- `words::scale` meets its contract.
-use mathlib.Core.Path.{◌≡◌}
-use Prim.Native.Nat.{◌/◌}
+use Rattle.std.proofs.Common.{◌≡◌, ◌/◌}
 use Rattle.words.specs.Inner.{Scaled}
 use Rattle.words.proofs.scale.Given as goal
 

@@ -1,5 +1,5 @@
 -- `words::whole` meets its contract: the equation by fields is the whole part (of_float).
-use mathlib.Core.Path.{sym, ◌∙◌}
+use Rattle.std.proofs.Common.{sym, ◌∙◌}
 use denote.Floats.{passes}
 use Rattle.words.proofs.ByFields.{of_float}
 use Rattle.words.proofs.whole.Goals as goal
@@ -7,5 +7,5 @@ use Rattle.words.proofs.whole.Goals as goal
 pub returns : goal.returns
 returns c =
     c.unsigned_whole.ensures
-    ∙ rw (c.sign-sign.ensures, c.biased_exponent-biased.ensures, c.trailing_significand-trailing.ensures, c.to_word-word.ensures)
+    ∙ rw (c.from.ensures.0, c.from.ensures.1.0, c.from.ensures.1.1, c.to_word.ensures)
     (sym (of_float c.args.x (passes _ c.well_formed.0.1)).unsigned)

@@ -1,8 +1,7 @@
 -- `words::whole_float` meets its contract.
-use mathlib.Core.Path.{refl, ap, ◌∙◌}
-use native.Mathlib.Nat.{min-eq_left}
-use lib.Dec.{lit≤}
-use lib.Ieee.{of_bits, of_int, add}
+use Rattle.std.proofs.Common.{refl, ap, ◌∙◌, lit≤}
+use Rattle.std.proofs.Math.Nat.{min-eq_left}
+use Rattle.std.specs.Float.Ieee.{of_bits, of_int, add}
 use Rattle.words.specs.Binary32.{decimal, of_count}
 use Rattle.words.proofs.WholeParts.{whole_below}
 use Rattle.words.proofs.whole_float.Goals as goal
@@ -16,6 +15,3 @@ unfolding of_bits
 returns-then-x c =
     c.float_of_small.ensures
     ∙ ap of_count (c.small_whole.ensures ∙ c.held_between.ensures.result_value ∙ min-eq_left (whole_below _ c.if-x.true))
-
-pub returns-else-x : goal.returns-else-x
-returns-else-x c = c.float_of_u64.ensures ∙ ap of_count c.whole.ensures

@@ -1,10 +1,7 @@
 -- `put_field` puts a word, and a byte behind it.
-use mathlib.Core.Path.{ap, ◌∙◌}
-use mathlib.Core.List.{List, [], ◌∷◌, ◌++◌}
-use Prim.Native.Nat.{ℕ}
+use Rattle.std.proofs.Common.{ap, ◌∙◌, List, [], ◌∷◌, ◌++◌, ℕ, rules}
 use Rattle.text.specs.Text.{word_digits}
 use Rattle.writer.proofs.Lines.{then_put}
-use Rattle.std.proofs.Common.{rules}
 use Rattle.writer.proofs.put_field.Goals as goal
 
 pub returns : goal.returns

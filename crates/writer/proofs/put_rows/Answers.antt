@@ -1,10 +1,5 @@
 -- `put_rows` puts the lines of the rows one behind the other (Filled).
-use mathlib.Core.Path.{◌≡◌, sym, ap, ◌∙◌}
-use mathlib.Core.List.{List, ◌++◌, map}
-use Prim.Native.Nat.{ℕ, ◌+◌, ◌-◌, ◌*◌}
-use native.Mathlib.Omega.{arith}
-use Rattle.std.proofs.Common.{rules}
-use lib.ListN.{length, take, drop, length-drop}
+use Rattle.std.proofs.Common.{◌≡◌, sym, ap, ◌∙◌, List, ◌++◌, map, ℕ, ◌+◌, ◌-◌, ◌*◌, arith, rules, length, take, drop, length-drop}
 use Rattle.score.specs.Rows.{row_words}
 use Rattle.text.specs.Text.{line_of, field_of}
 use Rattle.lists.proofs.Filling.{fill_goes_on, fill_ends}

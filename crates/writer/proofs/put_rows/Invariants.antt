@@ -1,5 +1,4 @@
--- `put_rows` puts the lines of the rows one behind the other (Filled).
-use Prim.Native.Nat.{◌-◌}
+-- The lines of the rows stand one behind the other (Filled).
 use Rattle.lists.proofs.Filling.{Filled}
 use Rattle.writer.specs.Writing.{row_bytes}
 use Rattle.writer.proofs.Lines.{rows_from}
@@ -7,6 +6,3 @@ use Rattle.writer.proofs.put_rows.Given as goal
 
 abbrev pub invariant-loop-k : goal.invariant-loop-k
 invariant-loop-k l = Filled row_bytes l.count (rows_from l.count l.rows) l.text l.k
-
-abbrev pub decreases-loop-k : goal.decreases-loop-k
-decreases-loop-k l = l.count - l.k

@@ -1,5 +1,5 @@
 -- `oscillator::wavetable_oscillator::cutoff` meets its contract.
-use lib.Ieee.{of_bits}
+use Rattle.std.specs.Float.Ieee.{of_bits}
 use Rattle.oscillator.proofs.Sizes.{period_float}
 use Rattle.oscillator.specs.Readings.{cutoff_of}
 use Rattle.words.specs.Binary32.{decimal}

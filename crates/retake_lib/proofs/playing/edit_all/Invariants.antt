@@ -1,15 +1,14 @@
--- `retake_lib::playing::edit_all` meets its contract: what is left to edit and to print is the rest of the whole (Left); lengths stay (Same).
-use Prim.Native.Nat.{◌-◌}
-use Rattle.retake_lib.specs.Program.{setup_with}
-use Rattle.rows.specs.Rows.{lent}
+-- `retake_lib::playing::edit_all` meets its contract: what is left to edit and to print is the rest of the whole (Left).
+use Rattle.std.proofs.Common.{◌+◌, ◌*◌, ◌≤◌}
+use Rattle.arrayvec.specs.ArrayString.{array_string_len}
+use Rattle.rows.specs.Rows.{setup_by, words_of, SamePlaces}
 use Rattle.retakes.specs.Retakes.{reel}
-use Rattle.retake_lib.proofs.Editing.{Left, Same}
+use Rattle.outputs.specs.Lines.{most_line}
+use Rattle.retake_lib.proofs.Editing.{Left}
 use Rattle.retake_lib.proofs.playing.edit_all.Given as goal
 
 abbrev pub invariant-loop-k : goal.invariant-loop-k
 invariant-loop-k l =
-    Same l.initial.rows l.initial.out l.initial.aux l.initial.kept l.initial.printed l.rows l.out l.aux l.kept l.printed
-    × Left (setup_with l.bank) l.edits l.count (reel l.n l.initial.rows (lent l.initial.out l.initial.aux l.initial.kept)) l.initial.printed l.at (reel l.n l.rows (lent l.out l.aux l.kept)) l.printed l.end l.k
-
-abbrev pub decreases-loop-k : goal.decreases-loop-k
-decreases-loop-k l = l.count - l.k
+    SamePlaces l.initial.take l.take
+    × (array_string_len l.printed ≤ array_string_len l.initial.printed + l.k * most_line)
+    × Left (setup_by l.patch) l.edits l.count (reel l.n l.initial.rows (words_of l.initial.take)) l.initial.printed.bytes (reel l.n l.rows (words_of l.take)) l.printed.bytes l.k

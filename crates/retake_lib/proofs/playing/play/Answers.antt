@@ -2,5 +2,4 @@
 use Rattle.retake_lib.proofs.playing.play.Goals as goal
 
 pub returns : goal.returns
-returns c =
-    rw c.samples_of.ensures at c.play_rows.ensures
+returns c = rw c.samples_of.ensures at c.play_rows.ensures

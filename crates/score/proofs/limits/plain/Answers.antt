@@ -1,5 +1,5 @@
 -- `score::limits::plain` meets its contract.
-use borrow.Author.Tests.{eq-eqb, ne_eqb}
+use Rattle.std.proofs.Common.{eq-eqb, ne_eqb}
 use Rattle.score.proofs.limits.plain.Goals as goal
 
 pub returns-then-w-eq2147483648 : goal.returns-then-w-eq2147483648

@@ -1,7 +1,5 @@
 -- `insert_row` moves the rows up and puts the new one in.
-use mathlib.Core.Path.{ap, ◌∙◌}
-use mathlib.Core.List.{List}
-use Prim.Native.Nat.{ℕ}
+use Rattle.std.proofs.Common.{ap, ◌∙◌, List, ℕ}
 use Rattle.score.specs.Rows.{put_row}
 use Rattle.score.proofs.rows.insert_row.Goals as goal
 

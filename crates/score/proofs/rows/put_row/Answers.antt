@@ -4,4 +4,4 @@ use Rattle.score.proofs.rows.put_row.Goals as goal
 
 pub returns : goal.returns
 returns c =
-    put_is c.args.rows.now _ _ _ _ c.requires c.copy_words.ensures c.copy_words.auto.words
+    put_is c.args.rows.now _ _ _ _ c.requires c.copy_from_slice.ensures.after c.copy_from_slice.ensures.len

@@ -1,11 +1,6 @@
--- `same_row` compares row k's part of the rows.
-use native.Mathlib.Omega.{arith}
-use Prim.Native.Nat.{◌+◌, ◌*◌, ◌-◌}
-use mathlib.Core.Path.{◌≡◌}
+-- `same_row` compares the words of row k with others.
+use Rattle.score.proofs.Same.{same_is}
 use Rattle.score.proofs.rows.same_row.Goals as goal
 
 pub returns : goal.returns
-returns c =
-    let k = c.args.k in
-    let d : k * 5 + 5 - k * 5 ≡ 5 = omega arith in
-    rw d at c.same_words.ensures
+returns c = rw (c.eq.ensures, c.row_at.ensures) (same_is _ _)

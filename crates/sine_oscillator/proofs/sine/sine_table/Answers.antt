@@ -1,6 +1,6 @@
 -- `sine_oscillator::sine::sine_table` meets its contract.
-use mathlib.Core.Path.{refl}
-use lib.Ieee.{of_bits, neg}
+use Rattle.std.proofs.Common.{refl}
+use Rattle.std.specs.Float.Ieee.{of_bits, neg}
 use Rattle.words.specs.Binary32.{decimal}
 use Rattle.sine_oscillator.specs.Sine.{lut_sine}
 use Rattle.sine_oscillator.proofs.sine.sine_table.Goals as goal

@@ -1,33 +1,16 @@
--- `text::pieces::column_of` meets its contract: no field passed is the name.
-use mathlib.Core.Path.{sym, ap, ◌∙◌}
-use Prim.Native.Nat.{◌+◌}
-use native.Mathlib.Omega.{arith}
-use borrow.Author.Rules.{rules}
-use Rattle.text.specs.Text.{space, column_of}
-use Rattle.text.proofs.Split.{rest, all_pieces, next_piece, no_piece}
-use Rattle.text.proofs.Columns.{column_here, column_later, no_column}
+-- The first field that is the name.
+use Rattle.std.proofs.Common.{rules, tests, eqb}
+use Rattle.std.proofs.lemmas.Iterator.Search.{position_from_yields_List}
+use Rattle.std.proofs.lemmas.Iterator.Splits.{YieldsList-from_slice_split}
+use Rattle.lists.specs.Lists.{same}
+use Rattle.lists.proofs.Copying.{same_by}
+use Rattle.text.specs.Text.{space, split, column_of}
 use Rattle.text.proofs.pieces.column_of.Goals as goal
 
-pub loop-from-init : goal.loop-from-init
-loop-from-init c = (search rules, search rules, rw (all_pieces space c.args.line.now) (omega arith))
-
-pub returns-then-same : goal.returns-then-same
-returns-then-same c =
-    let a = c.args in
-    let e = next_piece space a.line.now c.loop-from.from c.piece_end-end.result c.loop-from-test.true c.piece_end-end.ensures.value in
-    let later = rest space a.line.now (c.piece_end-end.result + 1) in
-    let here = column_here a.name.now _ later (sym c.same.ensures ∙ c.if-same.true) in
-    omega (arith, c.loop-from.invariant, ap (column_of a.name.now) e, here)
-
-pub loop-from-preserved : goal.loop-from-preserved
-loop-from-preserved c =
-    let a = c.args in
-    let e = next_piece space a.line.now c.loop-from.from c.piece_end-end.result c.loop-from-test.true c.piece_end-end.ensures.value in
-    let later = rest space a.line.now (c.piece_end-end.result + 1) in
-    let on = column_later a.name.now _ later (sym c.same.ensures ∙ c.if-same.false) in
-    (search rules, search rules, omega (arith, ap (column_of a.name.now) e, on))
-
 pub returns : goal.returns
+unfolding split column_of
 returns c =
-    let a = c.args in
-    omega (arith, ap (column_of a.name.now) (no_piece space a.line.now c.loop-from.from c.loop-from-test.false), no_column a.name.now)
+    let s = c.split.ensures in
+    position_from_yields_List (same c.args.name.now) _ _ c.position.result c.position.ensures.ran
+    (YieldsList-from_slice_split _ (λ b. eqb b space) c.args.line.now s.rest s.done s.closure (λ x b q k. search (rules, tests)))
+    (λ x b q k. (search rules, same_by b _ _ (search rules)))

@@ -1,22 +1,16 @@
--- `text::pieces::count_fields` meets its contract: the fields counted and those from `from` on are all.
-use mathlib.Core.Path.{ap}
-use native.Mathlib.Omega.{arith}
-use borrow.Author.Rules.{rules}
-use lib.ListN.{length}
-use Rattle.text.specs.Text.{space}
-use Rattle.text.proofs.Split.{all_pieces, next_piece, no_piece}
+-- As many fields as there are pieces.
+use Rattle.std.proofs.Common.{rules, tests, arith, eqb}
+use Rattle.std.proofs.lemmas.Iterator.Consumers.{count_from_yields_List}
+use Rattle.std.proofs.lemmas.Iterator.Splits.{YieldsList-from_slice_split}
+use Rattle.std.proofs.lemmas.List.Splits.{length-slice_split}
+use Rattle.std.proofs.lemmas.List.Sums.{count_by-le-length}
+use Rattle.text.specs.Text.{space, split}
 use Rattle.text.proofs.pieces.count_fields.Goals as goal
 
-pub loop-from-init : goal.loop-from-init
-loop-from-init c = (search rules, search rules, rw (all_pieces space c.args.line.now) (omega arith))
-
-pub loop-from-preserved : goal.loop-from-preserved
-loop-from-preserved c =
-    let l = c.args.line.now in
-    let e = next_piece space l c.loop-from.from c.piece_end-from.result c.loop-from-test.true c.piece_end-from.ensures.value in
-    (search rules, search rules, omega (arith, ap length e))
-
 pub returns : goal.returns
+unfolding split
 returns c =
-    let none = ap length (no_piece space c.args.line.now c.loop-from.from c.loop-from-test.false) in
-    (omega arith, search rules)
+    let s = c.split.ensures in
+    let e = count_from_yields_List c.split.result _ c.count.ensures.ran
+    (YieldsList-from_slice_split _ (λ b. eqb b space) c.args.line.now s.rest s.done s.closure (λ x b q k. search (rules, tests))) in
+    (e, omega (arith, e, length-slice_split (λ b. eqb b space) c.args.line.now, count_by-le-length (λ b. eqb b space) c.args.line.now))

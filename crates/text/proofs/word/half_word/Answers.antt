@@ -1,6 +1,6 @@
 -- `half_word` reads four digits, by the list of its bytes.
 use Rattle.text.proofs.Digits.{four_digits, four_value}
-use borrow.Author.Rules.{rules}
+use Rattle.std.proofs.Common.{rules}
 use Rattle.text.proofs.word.half_word.Goals as goal
 
 pub digit-requires : goal.digit-requires

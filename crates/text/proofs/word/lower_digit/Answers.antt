@@ -1,5 +1,5 @@
 -- `lower_digit` is the definition, by its one test.
-use borrow.Author.Tests.{lt-ltb, le-ltb}
+use Rattle.std.proofs.Common.{lt-ltb, le-ltb}
 use Rattle.text.specs.Text.{lower_digit}
 use Rattle.text.proofs.word.lower_digit.Goals as goal
 

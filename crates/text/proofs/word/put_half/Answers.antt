@@ -1,5 +1,5 @@
 -- `put_half` puts four digits in the place of four bytes.
-use mathlib.Core.Path.{◌∙◌}
+use Rattle.std.proofs.Common.{◌∙◌}
 use Rattle.lists.proofs.Filling.{four}
 use Rattle.text.proofs.LowerDigits.{four_lower}
 use Rattle.text.proofs.word.put_half.Goals as goal

@@ -1,8 +1,7 @@
 -- `put_word` puts one half behind the other.
-use mathlib.Core.Path.{◌∙◌}
+use Rattle.std.proofs.Common.{◌∙◌, rules}
 use Rattle.lists.proofs.Filling.{two}
 use Rattle.text.proofs.LowerDigits.{two_halves}
-use borrow.Author.Rules.{rules}
 use Rattle.text.proofs.word.put_word.Goals as goal
 
 pub returns : goal.returns

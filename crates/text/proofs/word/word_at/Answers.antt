@@ -1,5 +1,5 @@
 -- `word_at` reads a word by its two halves.
-use native.Mathlib.Omega.{arith}
+use Rattle.std.proofs.Common.{arith}
 use Rattle.text.proofs.Digits.{word_fits, half_digits, word_of_halves}
 use Rattle.text.proofs.word.word_at.Goals as goal
 

@@ -1,13 +1,7 @@
 -- The loop over the sines of aux, by the law of lent runs that a loop fills.
-use Prim.Native.Nat.{◌-◌, ◌≤◌}
-use lib.ListN.{length}
 use Rattle.utils.proofs.Runs.{Filling}
 use Rattle.wave_terrain_engine.specs.Stages.{stage_aux}
 use Rattle.wave_terrain_engine.proofs.frames.finish.Given as goal
 
 abbrev pub invariant-loop-i : goal.invariant-loop-i
-invariant-loop-i l =
-    (l.i ≤ length l.initial.aux) × Filling (stage_aux l.table l.phases) 0 l.initial.aux l.aux l.i
-
-abbrev pub decreases-loop-i : goal.decreases-loop-i
-decreases-loop-i l = length l.initial.aux - l.i
+invariant-loop-i l = Filling (stage_aux l.table l.phases) 0 l.initial.aux l.aux l.i

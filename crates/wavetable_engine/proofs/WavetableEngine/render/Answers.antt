@@ -1,26 +1,10 @@
 -- The block: what the stages leave behind them is the block frame by frame (Composed).
-use mathlib.Core.Path.{◌∙◌}
-use native.Mathlib.Omega.{arith}
-use lib.ListN.{length}
+use Rattle.std.proofs.Common.{◌≡◌, ◌∙◌, rules, length}
 use Rattle.wavetable_engine.proofs.Composed.{keys_fit, Staged, set_up_by, renders}
 use Rattle.wavetable_engine.proofs.WavetableEngine.render.Goals as goal
 
-pub read_all-requires : goal.read_all-requires
-read_all-requires c =
-    let few = c.requires.places.few_frames in
-    record {
-      bank_len = (c.requires.bank_len, (few, omega (arith, few)));
-      keys_fit = keys_fit _ _ _ _ _ _ _ _ _ c.walk-w.ensures;
-    }
-
-pub differentiate_all-diff_out-requires : goal.differentiate_all-diff_out-requires
-differentiate_all-diff_out-requires c =
-    let few = c.requires.places.few_frames in
-    (few, omega (arith, few))
-
-pub words_all-requires : goal.words_all-requires
-words_all-requires c =
-    (c.requires.places.few_frames, c.requires.places.aux_long)
+pub read_all-requires-clause-keys_fit : goal.read_all-requires-clause-keys_fit
+read_all-requires-clause-keys_fit c = keys_fit _ _ _ _ _ _ _ _ _ c.walk-w.ensures
 
 pub returns : goal.returns
 returns c =
@@ -33,6 +17,7 @@ returns c =
     let a = c.args in
     let bank = a.bank.now in
     let size = length a.out.now in
+    let whole : c.unwrap-bank.result.now ≡ bank = search rules in
     let staged : Staged bank size set-up.result a.self.diff_out walk.result differentiate-all.result
     words-all.new.out words-all.new.aux =
     record {
@@ -45,7 +30,7 @@ returns c =
       mixes = fold-all.new.mixes;
       samples = differentiate-all.new.samples;
       walked = walk.ensures;
-      corners_are = read_all.ensures;
+      corners_are = rw whole at read_all.ensures;
       mixes_are = fold-all.ensures;
       diff_is = differentiate-all.ensures.value;
       samples_are = differentiate-all.ensures.filled;

@@ -1,9 +1,6 @@
 -- `words::fields::small_whole` meets its contract: the word of such a float is E and T alone (small_whole).
-use mathlib.Core.Path.{sym, subst}
-use mathlib.Core.Bool.{not}
-use native.Mathlib.Omega.{arith}
-use lib.Dec.{T}
-use lib.Ieee.{Float, is_nan}
+use Rattle.std.proofs.Common.{sym, subst, not, arith, T, Float}
+use Rattle.std.specs.Float.Ieee.{is_nan}
 use denote.Floats.{passes}
 use Rattle.words.specs.Inner.{Small}
 use Rattle.words.proofs.SmallWhole.{small_whole}
@@ -26,4 +23,4 @@ overflow_shr-result c =
 
 pub returns : goal.returns
 returns c =
-    rw (c.significand.ensures, c.trailing_significand-trailing.ensures) (small_whole c.args.y (passes _ c.well_formed.0.1) c.requires).2
+    rw c.significand.ensures (small_whole c.args.y (passes _ c.well_formed.0.1) c.requires).2

@@ -1,7 +1,0 @@
--- `retake_c::retake_insert` meets its contract: the insertion's outcome, its answer written out.
-use Rattle.retake_c.proofs.Returning.{call_returns}
-use Rattle.retake_c.proofs.retake_insert.Goals as goal
-
-pub returns : goal.returns
-returns c =
-    call_returns _ _ _ _ _ _ _ _ c.values_of-v.ensures c.counts_of.ensures (rw c.settings_of-settings.ensures at c.insert-answer.ensures)

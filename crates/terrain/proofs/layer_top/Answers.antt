@@ -1,9 +1,0 @@
--- The top of the layer number, by whether there is a map.
-use borrow.Author.Tests.{eq-eqb, ne_eqb}
-use Rattle.terrain.proofs.layer_top.Goals as goal
-
-pub returns-then-map-eq0 : goal.returns-then-map-eq0
-returns-then-map-eq0 c = simp (eq-eqb _ _ c.if-map-eq0.true)
-
-pub returns-else-map-eq0 : goal.returns-else-map-eq0
-returns-else-map-eq0 c = simp (ne_eqb _ _ c.if-map-eq0.false)

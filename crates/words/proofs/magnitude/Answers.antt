@@ -1,8 +1,0 @@
--- `words::magnitude` meets its contract.
-use Rattle.words.proofs.magnitude.Goals as goal
-
-pub returns-then-x : goal.returns-then-x
-returns-then-x c = simp c.if-x.true
-
-pub returns-else-x : goal.returns-else-x
-returns-else-x c = simp c.if-x.false
