@@ -24,12 +24,14 @@ fn among<S: Copy, F: FnOnce(S) -> State>(block: Block<S>, of: F) -> Block<State>
 }
 
 // A row's block: one sample into each place of `out` and of `aux`. The arrays to work in are lent.
+// Here and in each voice what is read, worked in and written stand side by side: they are lent for a call, for a run and for a row. No map is a
+// map of length 0, as the C interface lends it.
 pub fn render(
     state: State,
     parameters: EngineParameters,
     bank: &[i16],
     map: &[u8],
-    work: &mut Workspace,
+    work: Workspace<'_>,
     out: &mut [u32],
     aux: &mut [u32],
 ) -> Block<State>

@@ -3,38 +3,38 @@
 // places show here.
 #![tactic(auto)]
 
+use oscillator::bank::BANK_LENGTH;
 use refusals::Call;
 use score::rows::ROW_WORDS;
-use trial::say;
+use std::fmt::Display;
+use std::io;
+use terrain::MAP_LENGTH;
+use voice::{KEPT_WORDS, OSCILLATOR, TERRAIN_WITH_MAP, WAVETABLE};
 
-// What stands in a result before a call writes it.
+// What stands in a result before a call writes it: a number, since C hands places that hold numbers.
 const UNWRITTEN: u64 = 77;
 
 const FRAMES: u32 = 4;
 
-const BANK: usize = 25344;
-
-const KEPT: usize = 13;
-
 // States that no rendering leaves. From the first, with the row of `held` and the one behind it, the phase is held in 2 frames, x in 1, y in 3,
 // z in 6, any of them in 7.
-const WAVETABLE: [u32; KEPT] = [
+const HELD_WAVETABLE: [u32; KEPT_WORDS] = [
     0x40600000, 0x40000000, 0x40400000, 0x3f800000, 0x41040000, 0x41080000, 0x40000000, 0x3f800000,
     0x40000000, 0x43340000, 0x3c000000, 0x447a0000, 0x44fa0000,
 ];
 
 // The map in 2 readings, the bank in 10.
-const TERRAIN: [u32; KEPT] = [
+const HELD_TERRAIN: [u32; KEPT_WORDS] = [
     0x3f800000, 0, 0x3d000000, 0x3f000000, 0x461c4000, 0x40c00000, 0, 0, 0, 0, 0, 0, 0,
 ];
 
 // The phase in 5 frames, the waveform in 3 of these.
-const OSCILLATOR: [u32; KEPT] = [
+const HELD_OSCILLATOR: [u32; KEPT_WORDS] = [
     0x40d00000, 0x3a800000, 0x3c000000, 0x43480000, 0x42c80000, 0x43480000, 0x43960000, 0, 0, 0, 0,
     0, 0,
 ];
 
-// What the calls of a score are lent beside its words.
+// What the calls of a score are lent beside its words, with the types that C hands.
 #[derive(Clone, Copy)]
 struct Patch<'a> {
     instrument: u32,
@@ -43,188 +43,196 @@ struct Patch<'a> {
     map: &'a [u8],
 }
 
-// The words of a score and of its take, with room for a row more.
-#[derive(Drop)]
-struct Words {
-    rows: [u32; 20],
-    out: [u32; 16],
-    aux: [u32; 16],
-    kept: [u32; 52],
-}
+// The words of a score of three rows and of its take, with room for a row more.
+type Words = trial::Words<20, 16, 52>;
 
-// What a call returned, and wrote to its results.
+// What a C function writes beside the words: numbers alone, as C takes them.
 #[derive(Clone, Copy)]
-struct Answer {
-    number: u32,
+struct Results {
     first: u64,
     second: u64,
     counts: [u64; 5],
 }
 
-impl Words {
-    // Calls, with a score of `count` rows.
-    fn call(&mut self, patch: Patch<'_>, count: u64, call: Call) -> Answer {
-        let instrument = patch.instrument;
-        let rate = patch.rate;
-        let bank = patch.bank;
-        let map = patch.map;
-        let rows = &mut self.rows;
-        let out = &mut self.out;
-        let aux = &mut self.aux;
-        let kept = &mut self.kept;
-        let mut first = UNWRITTEN;
-        let mut second = UNWRITTEN;
-        let mut counts = [UNWRITTEN; 5];
-        let number = match call {
-            Call::Render => retake_c::retake_render(
-                instrument,
-                rate,
-                FRAMES,
-                bank,
-                map,
-                rows,
-                count,
-                out,
-                aux,
-                kept,
-                &mut first,
-                &mut second,
-                &mut counts,
-            ),
-            Call::Edit(position, row) => {
-                let [note, timbre, morph, harmonics, restart] = row;
-                retake_c::retake_edit(
-                    instrument,
-                    rate,
-                    FRAMES,
-                    bank,
-                    map,
-                    rows,
-                    count,
-                    position as u64,
-                    note,
-                    timbre,
-                    morph,
-                    harmonics,
-                    restart,
-                    out,
-                    aux,
-                    kept,
-                    &mut first,
-                    &mut second,
-                    &mut counts,
-                )
-            }
-            Call::Insert(position, row) => {
-                let [note, timbre, morph, harmonics, restart] = row;
-                retake_c::retake_insert(
-                    instrument,
-                    rate,
-                    FRAMES,
-                    bank,
-                    map,
-                    rows,
-                    count,
-                    position as u64,
-                    note,
-                    timbre,
-                    morph,
-                    harmonics,
-                    restart,
-                    out,
-                    aux,
-                    kept,
-                    &mut first,
-                    &mut second,
-                    &mut counts,
-                )
-            }
-            Call::Remove(position) => retake_c::retake_remove(
-                instrument,
-                rate,
-                FRAMES,
-                bank,
-                map,
-                rows,
-                count,
-                position as u64,
-                out,
-                aux,
-                kept,
-                &mut first,
-                &mut second,
-                &mut counts,
-            ),
-        };
-        Answer {
-            number,
-            first,
-            second,
-            counts,
-        }
-    }
-
-    // Calls, and writes the answer, the rows that the call may change, and the take.
-    fn turn(&mut self, rt: &impl Print, patch: Patch<'_>, count: u64, call: Call) {
-        let answer = self.call(patch, count, call);
-        say_answer(rt, call, answer);
-        if !matches!(call, Call::Render) {
-            say_words(rt, "rows", &self.rows);
-        }
-        say_words(rt, "out", &self.out);
-        say_words(rt, "aux", &self.aux);
-        say_words(rt, "kept", &self.kept);
-    }
+// One function for each of C's, which take one by one what stands here in three structs. Those of an edit and an insertion are two, as C's are.
+fn render(words: &mut Words, patch: Patch<'_>, count: u64, results: &mut Results) -> u32 {
+    retake_c::retake_render(
+        patch.instrument,
+        patch.rate,
+        FRAMES,
+        patch.bank,
+        patch.map,
+        &words.rows,
+        count,
+        &mut words.out,
+        &mut words.aux,
+        &mut words.kept,
+        &mut results.first,
+        &mut results.second,
+        &mut results.counts,
+    )
 }
 
-// The name of a call.
-fn name_of(call: Call) -> &'static str {
+fn edit(
+    words: &mut Words,
+    patch: Patch<'_>,
+    count: u64,
+    position: u64,
+    row: [u32; ROW_WORDS],
+    results: &mut Results,
+) -> u32 {
+    let [note, timbre, morph, harmonics, restart] = row;
+    retake_c::retake_edit(
+        patch.instrument,
+        patch.rate,
+        FRAMES,
+        patch.bank,
+        patch.map,
+        &mut words.rows,
+        count,
+        position,
+        note,
+        timbre,
+        morph,
+        harmonics,
+        restart,
+        &mut words.out,
+        &mut words.aux,
+        &mut words.kept,
+        &mut results.first,
+        &mut results.second,
+        &mut results.counts,
+    )
+}
+
+fn insert(
+    words: &mut Words,
+    patch: Patch<'_>,
+    count: u64,
+    position: u64,
+    row: [u32; ROW_WORDS],
+    results: &mut Results,
+) -> u32 {
+    let [note, timbre, morph, harmonics, restart] = row;
+    retake_c::retake_insert(
+        patch.instrument,
+        patch.rate,
+        FRAMES,
+        patch.bank,
+        patch.map,
+        &mut words.rows,
+        count,
+        position,
+        note,
+        timbre,
+        morph,
+        harmonics,
+        restart,
+        &mut words.out,
+        &mut words.aux,
+        &mut words.kept,
+        &mut results.first,
+        &mut results.second,
+        &mut results.counts,
+    )
+}
+
+fn remove(
+    words: &mut Words,
+    patch: Patch<'_>,
+    count: u64,
+    position: u64,
+    results: &mut Results,
+) -> u32 {
+    retake_c::retake_remove(
+        patch.instrument,
+        patch.rate,
+        FRAMES,
+        patch.bank,
+        patch.map,
+        &mut words.rows,
+        count,
+        position,
+        &mut words.out,
+        &mut words.aux,
+        &mut words.kept,
+        &mut results.first,
+        &mut results.second,
+        &mut results.counts,
+    )
+}
+
+// Calls, with a score of `count` rows.
+fn perform(
+    words: &mut Words,
+    patch: Patch<'_>,
+    count: u64,
+    call: Call,
+    results: &mut Results,
+) -> u32 {
     match call {
-        Call::Render => "render",
-        Call::Edit(_, _) => "edit",
-        Call::Insert(_, _) => "insert",
-        Call::Remove(_) => "remove",
+        Call::Render => render(words, patch, count, results),
+        Call::Edit(position, row) => edit(words, patch, count, position as u64, row, results),
+        Call::Insert(position, row) => insert(words, patch, count, position as u64, row, results),
+        Call::Remove(position) => remove(words, patch, count, position as u64, results),
     }
 }
 
-// Writes a line: a text, and each number with a space before it.
-fn say_words(rt: &impl Print, text: &str, words: &[u32]) {
-    let _ = print!(rt; "{text}");
-    for word in words {
-        let _ = print!(rt; " {word}");
+// Calls, and writes a line of what was returned and written to the results, the rows that the call may change, and the take.
+fn turn(
+    rt: &impl Print,
+    words: &mut Words,
+    patch: Patch<'_>,
+    count: u64,
+    call: Call,
+) -> io::Result<()> {
+    let mut results = Results {
+        first: UNWRITTEN,
+        second: UNWRITTEN,
+        counts: [UNWRITTEN; 5],
+    };
+    let number = perform(words, patch, count, call, &mut results);
+    let name = call.name();
+    print!(rt; "{name} {number} {} {}", results.first, results.second)?;
+    say_numbers(rt, &results.counts)?;
+    if !matches!(call, Call::Render) {
+        say_words(rt, "rows", &words.rows)?;
     }
-    say(rt, b"\n");
+    say_words(rt, "out", &words.out)?;
+    say_words(rt, "aux", &words.aux)?;
+    say_words(rt, "kept", &words.kept)
 }
 
-// Writes a call's name, what it returned, and what it wrote to its results.
-fn say_answer(rt: &impl Print, call: Call, answer: Answer) {
-    let name = name_of(call);
-    let _ = print!(rt;
-        "{name} {} {} {}",
-        answer.number, answer.first, answer.second
-    );
-    for count in answer.counts {
-        let _ = print!(rt; " {count}");
+// Writes each number with a space before it, and ends the line.
+fn say_numbers<T: Display>(rt: &impl Print, numbers: &[T]) -> io::Result<()> {
+    for number in numbers {
+        print!(rt; " {number}")?;
     }
-    say(rt, b"\n");
+    println!(rt)
 }
 
-fn read(rt: &impl Print, text: &[u8], rows: &mut [u32]) {
+// Writes a line of words.
+fn say_words(rt: &impl Print, text: &str, words: &[u32]) -> io::Result<()> {
+    rt.print(text)?;
+    say_numbers(rt, words)
+}
+
+fn read(rt: &impl Print, text: &[u8], rows: &mut [u32]) -> io::Result<()> {
     let mut first = UNWRITTEN;
     let mut second = UNWRITTEN;
     let number = retake_c::retake_read_score(text, rows, &mut first, &mut second);
-    let _ = println!(rt; "read {number} {first} {second}");
-    say_words(rt, "rows", rows);
+    println!(rt; "read {number} {first} {second}")?;
+    say_words(rt, "rows", rows)
 }
 
-fn write(rt: &impl Print, rows: &[u32], count: u64, text: &mut [u8]) {
+fn write(rt: &impl Print, rows: &[u32], count: u64, text: &mut [u8]) -> io::Result<()> {
     let mut first = UNWRITTEN;
     let mut second = UNWRITTEN;
     let number = retake_c::retake_write_score(rows, count, text, &mut first, &mut second);
-    let _ = println!(rt; "write {number} {first} {second}");
-    say(rt, b"text\n");
-    say(rt, text);
-    say(rt, b"\n");
+    println!(rt; "write {number} {first} {second}")?;
+    println!(rt; "text")?;
+    rt.write_all(text)?;
+    println!(rt)
 }
 
 // The score that was read, rendered and changed: an accepted edit, one past the end, one outside a limit; an accepted insertion, and one with no
@@ -234,8 +242,8 @@ fn play(
     patch: Patch<'_>,
     read: [u32; 20],
     row: [u32; ROW_WORDS],
-    state: [u32; KEPT],
-) {
+    state: [u32; KEPT_WORDS],
+) -> io::Result<()> {
     let mut words = Words {
         rows: read,
         out: [1; 16],
@@ -257,14 +265,14 @@ fn play(
         (3, Call::Remove(3)),
     ];
     for (count, call) in calls {
-        words.turn(rt, patch, count, call);
+        turn(rt, &mut words, patch, count, call)?;
     }
-    words.kept[..KEPT].copy_from_slice(&state);
-    words.turn(rt, patch, 3, Call::Edit(1, held));
+    words.kept[..KEPT_WORDS].copy_from_slice(&state);
+    turn(rt, &mut words, patch, 3, Call::Edit(1, held))
 }
 
 // The row words after an accepted text and a refused one.
-fn read_texts(rt: &impl Print) -> [u32; 20] {
+fn read_texts(rt: &impl Print) -> io::Result<[u32; 20]> {
     let mut rows = [0xffffffff; 20];
     read(
         rt,
@@ -274,7 +282,7 @@ fn read_texts(rt: &impl Print) -> [u32; 20] {
 3ecccccd 00000000 427c0000 3e4ccccd 3f266666
 ",
         &mut rows,
-    );
+    )?;
     read(
         rt,
         b"note timbre morph harmonics restart
@@ -282,55 +290,55 @@ fn read_texts(rt: &impl Print) -> [u32; 20] {
 42700000 00000000 3f000000 3f800000 00000002
 ",
         &mut rows,
-    );
-    rows
+    )?;
+    Ok(rows)
 }
 
 // A text that is longer than its score needs; a row outside its limits, and too short a text for it; and a text one byte too short.
-fn write_texts(rt: &impl Print, rows: &[u32]) {
+fn write_texts(rt: &impl Print, rows: &[u32]) -> io::Result<()> {
     let mut text = [b'.'; 175];
-    write(rt, rows, 3, &mut text);
-    write(rt, rows, 4, &mut text);
+    write(rt, rows, 3, &mut text)?;
+    write(rt, rows, 4, &mut text)?;
     let mut short = [b'.'; 170];
-    write(rt, rows, 3, &mut short);
+    write(rt, rows, 3, &mut short)
 }
 
 // A bank whose samples go up and down: 7919 i mod 32749.
-fn waves() -> [i16; BANK] {
-    let mut bank = [0; BANK];
+fn waves() -> [i16; BANK_LENGTH] {
+    let mut bank = [0; BANK_LENGTH];
     for (i, sample) in bank.iter_mut().enumerate() {
         *sample = (i * 7919 % 32749) as i16;
     }
     bank
 }
 
-fn main(rt: HostRuntime) {
-    let rows = read_texts(&rt);
-    write_texts(&rt, &rows);
+fn main(rt: HostRuntime) -> io::Result<()> {
+    let rows = read_texts(&rt)?;
+    write_texts(&rt, &rows)?;
     let bank = waves();
-    let map = [90u8; 4096];
+    let map = [90u8; MAP_LENGTH];
     let wavetable = Patch {
-        instrument: 0,
+        instrument: WAVETABLE,
         rate: 48000,
         bank: &bank,
-        map: &[],
+        map: b"",
     };
     let row = [0x42600000, 0x3f400000, 0x3e800000, 0x3f000000, 1];
-    play(&rt, wavetable, rows, row, WAVETABLE);
+    play(&rt, wavetable, rows, row, HELD_WAVETABLE)?;
     let terrain = Patch {
-        instrument: 2,
+        instrument: TERRAIN_WITH_MAP,
         rate: 44100,
         bank: &bank,
         map: &map,
     };
     let row = [0x42500000, 0x3f100000, 0x3ec00000, 0x3f700000, 0];
-    play(&rt, terrain, rows, row, TERRAIN);
+    play(&rt, terrain, rows, row, HELD_TERRAIN)?;
     let oscillator = Patch {
-        instrument: 3,
+        instrument: OSCILLATOR,
         rate: 96000,
         bank: &bank,
-        map: &[],
+        map: b"",
     };
     let row = [0x42200000, 0x3e200000, 0x3f300000, 0x3ea00000, 0];
-    play(&rt, oscillator, rows, row, OSCILLATOR);
+    play(&rt, oscillator, rows, row, HELD_OSCILLATOR)
 }

@@ -2,16 +2,15 @@
 // which of the lent words (rows, out, aux, kept) are as they should be.
 #![tactic(auto)]
 
-ghost use Rattle.rows.specs.Rows.{SamePlaces};
-
 use arrayvec::ArrayVec;
 use oscillator::bank::BANK_LENGTH;
 use refusals::Call;
 use rows::{Patch, Report, Settings, Take};
 use score::refusal::Refusal;
 use score::rows::ROW_WORDS;
+use std::io;
 use terrain::MAP_LENGTH;
-use trial::{fill_tables, say};
+use trial::fill_tables;
 use voice::KEPT_WORDS;
 
 // ---- Calls
@@ -19,48 +18,24 @@ use voice::KEPT_WORDS;
 // What stands in lent words before anything is written there: a NaN's pattern, outside every limit.
 const JUNK: u32 = 0xffffffff;
 
-// Calls, with a score of `count` rows.
-fn answer(
-    patch: Patch<'_>,
+// Writes a call's line: its kind, what it answered, and the names of those of the lent words that are as they should be.
+fn say_line(
+    rt: &impl Print,
     call: Call,
-    rows: &mut [u32],
-    count: usize,
-    take: &mut Take<'_>,
-) -> Result<Report, Refusal>
-    ensures { SamePlaces take.old take.new }
-{
-    match call {
-        Call::Render => take::render(patch, rows, count, take),
-        Call::Edit(position, row) => take::edit(patch, rows, count, position, row, take),
-        Call::Insert(position, row) => take::insert(patch, rows, count, position, row, take),
-        Call::Remove(position) => take::remove(patch, rows, count, position, take),
+    answer: Result<Report, Refusal>,
+    right: [(&str, bool); 4],
+) -> io::Result<()> {
+    let name = call.name();
+    match answer {
+        Ok(report) => print!(rt; "{name} done {} {}", report.rows, report.holds.held)?,
+        Err(refusal) => print!(rt; "{name} refused {refusal}")?,
     }
-}
-
-// The name of a kind.
-fn name_of(call: Call) -> &'static str {
-    match call {
-        Call::Render => "render",
-        Call::Edit(_, _) => "edit",
-        Call::Insert(_, _) => "insert",
-        Call::Remove(_) => "remove",
+    for (name, right) in right {
+        if right {
+            print!(rt; " {name}")?;
+        }
     }
-}
-
-// Writes a call's kind and what it answered.
-fn say_answer(rt: &impl Print, call: Call, answer: Result<Report, Refusal>) {
-    let name = name_of(call);
-    let _ = match answer {
-        Ok(report) => print!(rt; "{name} done {} {}", report.rows, report.holds.held),
-        Err(refusal) => print!(rt; "{name} refused {refusal}"),
-    };
-}
-
-// Writes a text where something is so.
-fn say_if(rt: &impl Print, so: bool, text: &[u8]) {
-    if so {
-        say(rt, text);
-    }
+    println!(rt)
 }
 
 // ---- Lists
@@ -188,24 +163,17 @@ const SHORT: [Call; 7] = [
 // The rows of a score.
 type Score = ArrayVec<[u32; ROW_WORDS], ROOM>;
 
-type RowWords = [u32; ROOM * ROW_WORDS];
+const ROW_ROOM: usize = ROOM * ROW_WORDS;
 
-type Samples = [u32; ROOM * FRAMES];
+const SAMPLE_ROOM: usize = ROOM * FRAMES;
 
-type States = [u32; ROOM * KEPT_WORDS];
+const KEPT_ROOM: usize = ROOM * KEPT_WORDS;
 
-// The words that are lent.
-#[derive(Clone, Copy)]
-struct Words {
-    rows: RowWords,
-    out: Samples,
-    aux: Samples,
-    kept: States,
-}
+type Words = trial::Words<ROW_ROOM, SAMPLE_ROOM, KEPT_ROOM>;
 
 // The words of some rows, and junk behind them.
-fn row_words(score: &[[u32; ROW_WORDS]]) -> RowWords {
-    let mut words = [JUNK; ROOM * ROW_WORDS];
+fn row_words(score: &[[u32; ROW_WORDS]]) -> [u32; ROW_ROOM] {
+    let mut words = [JUNK; ROW_ROOM];
     for (word, value) in words.iter_mut().zip(score.iter().flatten()) {
         *word = *value;
     }
@@ -236,84 +204,76 @@ fn change(score: &mut Score, call: Call) {
 fn fresh(patch: Patch<'_>, score: &Score) -> Words {
     let mut words = Words {
         rows: row_words(score),
-        out: [0x12345678; ROOM * FRAMES],
-        aux: [0x7fc00001; ROOM * FRAMES],
-        kept: [0x80000000; ROOM * KEPT_WORDS],
+        out: [0x12345678; SAMPLE_ROOM],
+        aux: [0x7fc00001; SAMPLE_ROOM],
+        kept: [0x80000000; KEPT_ROOM],
     };
-    let mut take = Take {
-        out: &mut words.out,
-        aux: &mut words.aux,
-        kept: &mut words.kept,
-    };
-    let _ = take::render(patch, &words.rows, score.len(), &mut take);
+    let _ = words.call(patch, score.len(), Call::Render);
     words
 }
 
 // Whether a run has the first k words of `fresh`, and those of `old` behind them.
 fn joined(words: &[u32], k: usize, fresh: &[u32], old: &[u32]) -> bool {
-    let pairs = fresh.iter().zip(old).enumerate();
-    words.iter().zip(pairs).all(|(&word, (i, (&fresh, &old)))| word
-        == if i < k { fresh } else { old })
+    words
+        .iter()
+        .eq(fresh.iter().take(k).chain(old.iter().skip(k)))
 }
 
-// A call and its line: what it answered, and which of the lent words are as they should be.
-fn turn(rt: &impl Print, patch: Patch<'_>, call: Call, score: &mut Score, words: &mut Words) {
+// A call and its line.
+fn turn(
+    rt: &impl Print,
+    patch: Patch<'_>,
+    call: Call,
+    score: &mut Score,
+    words: &mut Words,
+) -> io::Result<()> {
     let old = *words;
-    let mut take = Take {
-        out: &mut words.out,
-        aux: &mut words.aux,
-        kept: &mut words.kept,
-    };
-    let answer = answer(patch, call, &mut words.rows, score.len(), &mut take);
+    let answer = words.call(patch, score.len(), call);
     if answer.is_ok() {
         change(score, call);
     }
-    let fresh = fresh(patch, score);
+    let new = fresh(patch, score);
     let n = if answer.is_ok() { score.len() } else { 0 };
-    say_answer(rt, call, answer);
-    say_if(
-        rt,
-        joined(&words.rows, n * ROW_WORDS, &fresh.rows, &old.rows),
-        b" rows",
-    );
-    say_if(
-        rt,
-        joined(&words.out, n * FRAMES, &fresh.out, &old.out),
-        b" out",
-    );
-    say_if(
-        rt,
-        joined(&words.aux, n * FRAMES, &fresh.aux, &old.aux),
-        b" aux",
-    );
-    say_if(
-        rt,
-        joined(&words.kept, n * KEPT_WORDS, &fresh.kept, &old.kept),
-        b" kept",
-    );
-    say(rt, b"\n");
+    let samples = n * FRAMES;
+    let right = [
+        (
+            "rows",
+            joined(&words.rows, n * ROW_WORDS, &new.rows, &old.rows),
+        ),
+        ("out", joined(&words.out, samples, &new.out, &old.out)),
+        ("aux", joined(&words.aux, samples, &new.aux, &old.aux)),
+        (
+            "kept",
+            joined(&words.kept, n * KEPT_WORDS, &new.kept, &old.kept),
+        ),
+    ];
+    say_line(rt, call, answer, right)
 }
 
-// The calls of a table, on the score's first `count` rows.
-fn list(rt: &impl Print, patch: Patch<'_>, count: usize, table: &[Call]) {
-    let rows = SCORE;
+// The calls of a table, on a score of some rows.
+fn list(
+    rt: &impl Print,
+    patch: Patch<'_>,
+    rows: &[[u32; ROW_WORDS]],
+    table: &[Call],
+) -> io::Result<()> {
     let mut score = ArrayVec::new();
-    let _ = score.try_extend_from_slice(&rows);
-    score.truncate(count);
+    let _ = score.try_extend_from_slice(rows);
     let mut words = Words {
-        rows: row_words(&rows),
-        out: [JUNK; ROOM * FRAMES],
-        aux: [JUNK; ROOM * FRAMES],
-        kept: [JUNK; ROOM * KEPT_WORDS],
+        rows: row_words(rows),
+        out: [JUNK; SAMPLE_ROOM],
+        aux: [JUNK; SAMPLE_ROOM],
+        kept: [JUNK; KEPT_ROOM],
     };
     for call in table {
-        turn(rt, patch, *call, &mut score, &mut words);
+        turn(rt, patch, *call, &mut score, &mut words)?;
     }
+    Ok(())
 }
 
 // The lists on an instrument.
-fn play<'a>(rt: &impl Print, instrument: u32, bank: &'a [i16], map: &'a [u8]) {
-    let _ = println!(rt; "instrument {instrument}");
+fn play(rt: &impl Print, instrument: u32, bank: &[i16], map: &[u8]) -> io::Result<()> {
+    println!(rt; "instrument {instrument}")?;
     let settings = Settings {
         instrument,
         rate: RATE,
@@ -324,8 +284,9 @@ fn play<'a>(rt: &impl Print, instrument: u32, bank: &'a [i16], map: &'a [u8]) {
         bank,
         map,
     };
-    list(rt, patch, 8, &LONG);
-    list(rt, patch, 2, &SHORT);
+    let rows = SCORE;
+    list(rt, patch, &rows, &LONG)?;
+    list(rt, patch, &rows[..2], &SHORT)
 }
 
 // ---- Refusals
@@ -335,7 +296,7 @@ fn play<'a>(rt: &impl Print, instrument: u32, bank: &'a [i16], map: &'a [u8]) {
 // itself is edited and taken out, which is accepted. The lent words are compared with what they were.
 
 // The instrument, rate and frames; how many samples of the bank and bytes of the map are lent; the row count; how many row words and words of
-// out, aux and kept are lent; the position.
+// out, aux and kept are lent; the position. A tuple, so that each line of the table is one line.
 type Line = ((u32, u32, usize), [usize; 2], usize, [usize; 4], usize);
 
 const LINES: [Line; 31] = [
@@ -392,8 +353,8 @@ fn patch_of<'a>(line: Line, bank: &'a [i16], map: &'a [u8]) -> Patch<'a> {
     }
 }
 
-// A call that is handed what a line says, and its line: what it answered, and which of the lent words are as they were.
-fn attempt(rt: &impl Print, call: Call, line: Line, bank: &[i16], map: &[u8]) {
+// A call that is handed what a line says, and its line.
+fn attempt(rt: &impl Print, call: Call, line: Line, bank: &[i16], map: &[u8]) -> io::Result<()> {
     let (_, _, count, [row_words, outs, auxs, keeps], _) = line;
     let mut rows = [0u32; 20485];
     rows[6] = 0x3f800001;
@@ -407,41 +368,42 @@ fn attempt(rt: &impl Print, call: Call, line: Line, bank: &[i16], map: &[u8]) {
         kept: &mut kept[..keeps.min(52)],
     };
     let lent = &mut rows[..row_words.min(20485)];
-    let answer = answer(patch_of(line, bank, map), call, lent, count, &mut take);
-    say_answer(rt, call, answer);
-    say_if(rt, rows == old_rows, b" rows");
-    say_if(rt, out == [JUNK; 24], b" out");
-    say_if(rt, aux == [JUNK; 24], b" aux");
-    say_if(rt, kept == [JUNK; 52], b" kept");
-    say(rt, b"\n");
+    let answer = take::perform(patch_of(line, bank, map), lent, count, call, &mut take);
+    let same = [
+        ("rows", rows == old_rows),
+        ("out", out == [JUNK; 24]),
+        ("aux", aux == [JUNK; 24]),
+        ("kept", kept == [JUNK; 52]),
+    ];
+    say_line(rt, call, answer, same)
 }
 
 // The four calls, with each line of the table, and with a bank and a map that have an element too many.
-fn attempts(rt: &impl Print) {
+fn attempts(rt: &impl Print) -> io::Result<()> {
     let bank = [0i16; BANK_LENGTH + 1];
     let map = [0u8; MAP_LENGTH + 1];
     let row = [0x42700000, 0, 0, 0, 0];
     for line in LINES {
-        let at = line.4;
+        let (_, _, _, _, at) = line;
         for call in [
             Call::Render,
             Call::Edit(at, row),
             Call::Insert(at, row),
             Call::Remove(at),
         ] {
-            attempt(rt, call, line, &bank, &map);
+            attempt(rt, call, line, &bank, &map)?;
         }
     }
+    Ok(())
 }
 
-fn main(rt: HostRuntime) {
+fn main(rt: HostRuntime) -> io::Result<()> {
     let mut bank = [0i16; BANK_LENGTH];
     let mut map = [0u8; MAP_LENGTH];
     fill_tables(1, &mut bank, &mut map);
-    let none = [0u8; 0];
-    play(&rt, 0, &bank, &none);
-    play(&rt, 1, &bank, &none);
-    play(&rt, 2, &bank, &map);
-    play(&rt, 3, &bank, &none);
-    attempts(&rt);
+    play(&rt, 0, &bank, b"")?;
+    play(&rt, 1, &bank, b"")?;
+    play(&rt, 2, &bank, &map)?;
+    play(&rt, 3, &bank, b"")?;
+    attempts(&rt)
 }

@@ -1,7 +1,7 @@
 -- What the example prints is computed with the bank unknown: positions, stops and holds do not depend on it, and a comparison of kept words
 -- ends at word 1, pre x, before the words that do. What a call tests of the bank is its length alone.
 use Rattle.std.proofs.Common.{Ok, ◌≡◌, refl, ap, ◌∙◌, true, cond, List, [], ◌∷◌, ◌++◌, ℕ, ◌+◌, ltb, ℤ, length, drop}
-use lib.Ieee.{of_bits, to_bits, lt, le, add, sub, mul, div, neg, of_int, to_unsigned, is_nan}
+use Rattle.std.specs.Float.Ieee.{of_bits, to_bits, lt, le, add, sub, mul, div, neg, of_int, to_unsigned, is_nan}
 use Rattle.words.specs.Binary32.{decimal}
 use Rattle.lists.specs.Lists.{same}
 use Rattle.words.specs.Parts.{part_of}

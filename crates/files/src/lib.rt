@@ -1,4 +1,4 @@
-// Files, read into lent bytes and written from them, whatever they hold.
+// Files, read up to a size and written from lent bytes, whatever they hold. A name is bytes too: a caller need not show that it is text.
 #![tactic(auto)]
 
 pub mod reading;

@@ -12,7 +12,8 @@ use std::rt::Files;
 // Files are read so many bytes at a time: 4 KiB.
 const CHUNK: usize = 4096;
 
-// Reads once, at most a chunk and no more than there is room for; how many bytes came, 0 at the file's end or where a read fails.
+// Reads once, at most a chunk and no more than there is room for; how many bytes came: 0 at the file's end, as `Read::read` says it, and where a
+// read fails.
 fn read_some<R: Read, const N: usize>(file: &mut R, bytes: &mut ArrayVec<u8, N>) -> usize
     ensures { CameIn (R.remaining file.old) (R.remaining file.new) bytes.old.items bytes.new.items result }
 {
@@ -25,6 +26,7 @@ fn read_some<R: Read, const N: usize>(file: &mut R, bytes: &mut ArrayVec<u8, N>)
 }
 
 // Reads until there is no room or the file ends: the bytes that came are the first that the reader had left.
+// A while, and not `io::copy`: that says nothing of the bytes that came before a read fails, and here they count.
 fn read_all<R: Read, const N: usize>(file: &mut R) -> ArrayVec<u8, N>
     ensures { Consumes (R.remaining file.old) (R.remaining file.new) result.items }
 {

@@ -1,10 +1,10 @@
 // Writing a file whole or not at all: a new file beside it is written first, and then takes its place. Where that fails, a line on
 // standard error says so, the new file is removed, and the old one is as it was.
-ghost use Rattle.std.specs.Prelude.{◌≡◌, ◌+◌, ◌≤◌, ◌++◌, length, IsSome, IfSome, ◌↔◌, OnOk};
+ghost use Rattle.std.specs.Prelude.{◌≡◌, ◌≤◌, ◌++◌, length, IsSome, IfSome, ◌↔◌, OnOk};
 ghost use Rattle.std.specs.Io.KnownBytes.{Appends};
 ghost use Rattle.files.specs.Beside.{most_beside, beside};
 
-use arrayvec::ArrayVec;
+use arrayvec::ArrayString;
 use std::fs::{File, OpenFile};
 use std::io::{Error, ErrorKind, Write};
 use std::rt::Files;
@@ -15,14 +15,21 @@ const MOST_NAME: usize = 60;
 
 const MOST_BESIDE: usize = MOST_NAME + 4;
 
+// A file to write: its name, and all that it is to hold, lent: who owns the bytes, and in what, is nothing to this crate.
+#[derive(Clone, Copy)]
+pub struct NewFile<'a> {
+    pub name: &'a [u8],
+    pub bytes: &'a [u8],
+}
+
 // The name of the file beside: `.new` behind the file's own name. A name that is too long has none.
-fn put_beside(name: &[u8]) -> Option<ArrayVec<u8, MOST_BESIDE>>
-    ensures some { IfSome result (λ b. b.items ≡ beside name.now) }
+fn put_beside(name: &str) -> Option<ArrayString<MOST_BESIDE>>
+    ensures some { IfSome result (λ b. b.bytes ≡ beside name.now) }
     ensures variant { IsSome result ↔ (length (beside name.now) ≤ most_beside) }
 {
-    let mut beside = ArrayVec::new();
-    beside.try_extend_from_slice(name).ok()?;
-    beside.try_extend_from_slice(b".new").ok()?;
+    let mut beside = ArrayString::new();
+    beside.try_push_str(name).ok()?;
+    beside.try_push_str(".new").ok()?;
     Some(beside)
 }
 
@@ -32,22 +39,6 @@ fn as_text(name: &[u8]) -> io::Result<&str> {
         ErrorKind::InvalidFilename,
         "a name that is not UTF-8",
     ))
-}
-
-// A new file; there is none of this name yet.
-fn create<R: Files>(rt: &R, name: &[u8]) -> io::Result<R::File> {
-    File::create_new(rt, as_text(name)?)
-}
-
-// Removes a file, if it is there.
-fn remove(rt: &impl Files, name: &[u8]) {
-    if let Ok(text) = as_text(name) {
-        let _ = fs::remove_file(rt, text);
-    }
-}
-
-fn rename(rt: &impl Files, from: &[u8], to: &[u8]) -> io::Result<()> {
-    fs::rename(rt, as_text(from)?, as_text(to)?)
 }
 
 // A line on standard error: the file's name, and why it is not written.
@@ -66,20 +57,21 @@ fn fill<W: Write + OpenFile>(file: &mut W, bytes: &[u8]) -> io::Result<()>
 // A file's name, and the name of the file beside it, which holds all that the file is to hold.
 #[derive(Drop)]
 struct Draft<'a> {
-    name: &'a [u8],
-    beside: ArrayVec<u8, MOST_BESIDE>,
+    name: &'a str,
+    beside: ArrayString<MOST_BESIDE>,
 }
 
 impl<'a> Draft<'a> {
     // Writes the file beside: all of it, or nothing is left there. One that an earlier run left is removed first.
-    fn write(rt: &impl Files, name: &'a [u8], bytes: &[u8]) -> io::Result<Draft<'a>> {
+    fn write(rt: &impl Files, new: NewFile<'a>) -> io::Result<Draft<'a>> {
+        let name = as_text(new.name)?;
         let Some(beside) = put_beside(name) else {
             return Err(Error::new(ErrorKind::InvalidFilename, "a name that is too long"));
         };
         let draft = Draft { name, beside };
         draft.discard(rt);
-        let mut file = create(rt, &draft.beside)?;
-        if let Err(e) = fill(&mut file, bytes) {
+        let mut file = File::create_new(rt, draft.beside.as_str())?;
+        if let Err(e) = fill(&mut file, new.bytes) {
             draft.discard(rt);
             return Err(e);
         }
@@ -88,34 +80,28 @@ impl<'a> Draft<'a> {
 
     // Removes the file beside, if it is there.
     fn discard(&self, rt: &impl Files) {
-        remove(rt, &self.beside);
+        let _ = fs::remove_file(rt, self.beside.as_str());
     }
 
     // The file beside takes the file's place.
     fn replace(&self, rt: &(impl Files + Eprint)) {
-        if let Err(e) = rename(rt, &self.beside, self.name) {
-            fail(rt, self.name, e);
+        if let Err(e) = fs::rename(rt, self.beside.as_str(), self.name) {
+            fail(rt, self.name.as_bytes(), e);
             self.discard(rt);
         }
     }
 }
 
 // Writes two files; neither takes its place before both are written. What the system holds then, no contract can say.
-pub fn write_two(
-    rt: &(impl Files + Eprint),
-    first: &[u8],
-    first_bytes: &[u8],
-    second: &[u8],
-    second_bytes: &[u8],
-) {
-    let one = match Draft::write(rt, first, first_bytes) {
+pub fn write_two(rt: &(impl Files + Eprint), first: NewFile<'_>, second: NewFile<'_>) {
+    let one = match Draft::write(rt, first) {
         Ok(draft) => draft,
-        Err(e) => return fail(rt, first, e),
+        Err(e) => return fail(rt, first.name, e),
     };
-    let two = match Draft::write(rt, second, second_bytes) {
+    let two = match Draft::write(rt, second) {
         Ok(draft) => draft,
         Err(e) => {
-            fail(rt, second, e);
+            fail(rt, second.name, e);
             return one.discard(rt);
         }
     };

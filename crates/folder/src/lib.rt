@@ -6,7 +6,7 @@ ghost use Rattle.std.specs.Prelude.{◌<◌};
 
 use arrayvec::ArrayVec;
 use files::reading::read_file;
-use files::writing::write_two;
+use files::writing::{NewFile, write_two};
 use inputs::{BANK_BYTES, MOST_TEXT};
 use retake_lib::{BANK_ROOM, TEXT_ROOM};
 
@@ -26,8 +26,17 @@ pub fn run(rt: &(impl std::rt::Files + Print + Eprint)) {
     let edits = read_past::<MOST_TEXT, TEXT_ROOM>(rt, b"edits.txt");
     let bank = read_past::<BANK_BYTES, BANK_ROOM>(rt, b"bank.bin");
     let written = retake_lib::run(&score, &edits, &bank);
-    let _ = rt.write_all(written.printed.as_str().as_bytes());
+    let _ = rt.print(written.printed.as_str());
     if let Some([out, aux]) = &written.files {
-        write_two(rt, out.name, &out.bytes, aux.name, &aux.bytes);
+        // No `From`: neither type is of this crate.
+        let first = NewFile {
+            name: out.name,
+            bytes: &out.bytes,
+        };
+        let second = NewFile {
+            name: aux.name,
+            bytes: &aux.bytes,
+        };
+        write_two(rt, first, second);
     }
 }

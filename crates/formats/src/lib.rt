@@ -20,7 +20,7 @@ pub fn put_decimal<const N: usize>(n: u64, text: &mut ArrayString<N>)
     text.push_str(Buffer::new().format(n));
 }
 
-// Words as bytes, low byte first.
+// Words as bytes, low byte first. That they fit is a clause, here and where files are made of them: a slice's length is in no type.
 pub fn low_first<const N: usize>(words: &[u32]) -> ArrayVec<u8, N>
     requires { length words.now * 4 ≤ N }
     ensures { result.items ≡ low_first words.now }
@@ -33,7 +33,8 @@ pub fn low_first<const N: usize>(words: &[u32]) -> ArrayVec<u8, N>
     bytes
 }
 
-// Bytes as samples, low byte first.
+// Bytes as samples, low byte first. By index: once `iter_mut` zipped with chunks of two is over, a proof knows how many samples there are, and
+// no more.
 pub fn samples_of(bytes: &[u8], samples: &mut [i16])
     requires { length bytes.now ≡ length samples.old * 2 }
     ensures { samples.new ≡ samples_of bytes.now }

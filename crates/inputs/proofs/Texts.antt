@@ -1,6 +1,7 @@
 -- What reading a text answers, and the first refusal of the three. No more rows or edits are read than there are words for: 12 stands before
 -- that.
 use Rattle.std.proofs.Common.{◌≡◌, refl, sym, ap, ◌∙◌, ℕ, ◌*◌, ◌≤◌, Bool, true, false, cond, ◌&&◌, ◌||◌, eqb, ltb, List, ◌++◌, length, drop, Result, Ok, Err, arith}
+use Rattle.std.specs.Prelude.{replicate}
 use Rattle.std.proofs.lemmas.Bool.{ltb-false, eqb-true}
 use Rattle.std.proofs.lemmas.List.{length-replicate}
 use Rattle.score.specs.declared.refusal.Refusal.TheVariants.{Rows, Space, Bank}
@@ -68,6 +69,10 @@ read_fits text lent n h = settled_fits true row_words _ _ lent n h
 pub read_edits_fits : (text lent : List ℕ) (n : ℕ) → (read_edits_of text lent).answer ≡ Ok n → edit_words * n ≤ length lent
 unfolding read_edits_of read_text edit_table score_table
 read_edits_fits text lent n h = settled_fits false edit_words _ _ lent n h
+
+pub zero_words : (n : ℕ) → replicate {A = ℕ} n 0 ≡ zeros n
+unfolding zeros
+zero_words n = refl
 
 pub zeros_long : {l : List ℕ} (n : ℕ) → l ≡ zeros n → length l ≡ n
 unfolding zeros

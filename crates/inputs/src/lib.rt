@@ -2,7 +2,7 @@
 #![tactic(auto)]
 
 ghost use Rattle.std.specs.Prelude.{◌≡◌, IfOk};
-ghost use Rattle.inputs.specs.Inputs.{zeros, test_length, test_bank, inputs_of, Within};
+ghost use Rattle.inputs.specs.Inputs.{test_length, test_bank, inputs_of, Within};
 
 use oscillator::bank::BANK_LENGTH;
 use reader::EDIT_WORDS;
@@ -26,14 +26,6 @@ pub struct Inputs {
     pub rows: [u32; MOST_ROWS * ROW_WORDS],
     pub edit_count: usize,
     pub edits: [u32; MOST_EDITS * EDIT_WORDS],
-}
-
-// So many words of 0.
-#[tactic(auto, unfolding(crate::specs::Inputs::zeros))]
-pub fn zeros<const N: usize>() -> [u32; N]
-    ensures { result ≡ zeros N }
-{
-    [0; N]
 }
 
 // A text that is too long is refused before anything in it.
@@ -63,8 +55,8 @@ pub fn read(score: &[u8], edits: &[u8], bank: usize) -> Result<Inputs, Refusal>
     ensures value { result ≡ inputs_of score.now edits.now bank }
     ensures within { IfOk result (λ given. Within given) }
 {
-    let mut rows = zeros();
-    let mut words = zeros();
+    let mut rows = [0; MOST_ROWS * ROW_WORDS];
+    let mut words = [0; MOST_EDITS * EDIT_WORDS];
     test_length(score)?;
     let count = reader::read(score, &mut rows)?;
     test_length(edits)?;

@@ -1,6 +1,6 @@
 -- Two numbers are in one order or the other, and a conjunction or disjunction is decided by its parts.
 use Rattle.std.proofs.Common.{◌≡◌, refl, ◌⊎◌, inl, inr, Bool, true, false, ◌&&◌, ◌||◌, true≢false, ℕ, ◌≤◌, ◌<◌, leb-true, leb-false, leb}
-use mathlib.Core.Bool.{false≢true}
+use Rattle.std.proofs.lemmas.Bool.{false≢true}
 
 pub le_or_lt : (a b : ℕ) → (a ≤ b) ⊎ (b < a)
 le_or_lt a b = go (leb a b) refl

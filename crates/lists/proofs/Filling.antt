@@ -1,21 +1,6 @@
 -- A list filled part after part, from the front: what is filled, and what the parts that are left give, is all.
-use Rattle.std.proofs.Common.{◌≡◌, refl, sym, ap, ◌∙◌, List, [], ◌∷◌, ◌++◌, append-nil, append_assoc, ℕ, ◌+◌, ◌-◌, ◌*◌, ◌≤◌, ◌<◌, zero-le, zero-mul, suc-mul, add-one, arith, length, take, drop, set, length-append, length-drop, drop_of_length-le, length-take-le, take_at, drop_at, take_all}
+use Rattle.std.proofs.Common.{◌≡◌, refl, sym, ap, ◌∙◌, List, [], ◌++◌, append-nil, append_assoc, ℕ, ◌+◌, ◌-◌, ◌*◌, ◌≤◌, ◌<◌, suc-mul, add-one, arith, length, take, drop, length-append, length-drop, length-take-le, take_at, take_all}
 use Rattle.lists.proofs.Places.{part_end}
-
--- four numbers in the place of four
-pub four : (l : List ℕ) (a b c d : ℕ) → length l ≡ 4 → set (set (set (set l 0 a) 1 b) 2 c) 3 d ≡ a ∷ b ∷ c ∷ d ∷ []
-four [] a b c d h = absurd (omega arith)
-four (w ∷ []) a b c d h = absurd (omega arith)
-four (w ∷ x ∷ []) a b c d h = absurd (omega arith)
-four (w ∷ x ∷ y ∷ []) a b c d h = absurd (omega arith)
-four (w ∷ x ∷ y ∷ z ∷ []) a b c d h = refl
-four (w ∷ x ∷ y ∷ z ∷ v ∷ l) a b c d h = absurd (omega arith)
-
--- two parts in the place of two
-pub two : (w : ℕ) (l x y : List ℕ) → length l ≡ w + w → length x ≡ w → length y ≡ w → take w (x ++ drop w l) ++ (y ++ drop w (drop w (x ++ drop w l))) ≡ x ++ y
-two w l x y h e f =
-    let d : drop w (drop w l) ≡ [] = drop_of_length-le (drop w l) {i = w} (omega (arith, length-drop w l)) in
-    rw (take_at x (drop w l) w e, drop_at x (drop w l) w e, d, append-nil y)
 
 -- Of n parts of w the first i are filled; `rest i` is what the parts from i on are to hold.
 pub record Filled (w n : ℕ) (rest : ℕ → List ℕ) (l : List ℕ) (i : ℕ) : Type 0 where
@@ -24,9 +9,6 @@ pub record Filled (w n : ℕ) (rest : ℕ → List ℕ) (l : List ℕ) (i : ℕ)
   pub left : take (i * w) l ++ rest i ≡ rest 0
 
 module _ (w n : ℕ) (rest : ℕ → List ℕ) (l : List ℕ) where
-  pub fill_begins : length l ≡ n * w → Filled w n rest l 0
-  fill_begins h = record { at = zero-le; long = h; left = ap (λ (k : ℕ). take k l ++ rest 0) (zero-mul w) }
-
   module _ (i : ℕ) (h : i < n) (x : List ℕ) (e : length x ≡ w) (f : Filled w n rest l i) where
     span : i * w + w - i * w ≡ w
     span = omega arith
@@ -52,14 +34,6 @@ module _ (w n : ℕ) (rest : ℕ → List ℕ) (l : List ℕ) where
           long = same_long ∙ f.long;
           left = ap (λ (z : List ℕ). z ++ rest (i + 1)) t ∙ append_assoc (take (i * w) l) x (rest (i + 1)) ∙ ap (λ (z : List ℕ). take (i * w) l ++ z) (sym r) ∙ f.left;
         }
-
-    -- the last part
-    pub fill_last : i + 1 ≡ n → rest i ≡ x → filled ≡ rest 0
-    fill_last q r =
-        let m : length (drop (i * w) l) ≤ i * w + w - i * w = omega (arith, span, length-drop (i * w) l, f.long, ap (λ (k : ℕ). k * w) (sym q), suc-mul i w, ap (λ (k : ℕ). k * w) (add-one i)) in
-        ap (λ (z : List ℕ). take (i * w) l ++ (x ++ z)) (drop_of_length-le (drop (i * w) l) m)
-        ∙ ap (λ (z : List ℕ). take (i * w) l ++ z) (append-nil x ∙ sym r)
-        ∙ f.left
 
   pub fill_ends : (i : ℕ) → n ≤ i → rest n ≡ [] → Filled w n rest l i → l ≡ rest 0
   fill_ends i h r f =

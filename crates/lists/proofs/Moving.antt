@@ -1,6 +1,6 @@
--- Moving a chunk_length of numbers at a time: what is moved so far, and what is left.
+-- Moving a chunk of numbers at a time: what is moved so far, and what is left.
 use Rattle.std.proofs.Common.{◌≡◌, refl, sym, ap, ◌∙◌, List, [], ◌++◌, append_assoc, ℕ, ◌+◌, ◌-◌, ◌*◌, ◌≤◌, ◌<◌, le_refl, suc-mul, add-mul, add-one, arith, length, take, drop, length-append, length-drop, take-append-drop, length-take-le, take-add, take_at, drop_at, drop-drop, take-take}
-use lib.Seq.{take-append-le}
+use Rattle.std.proofs.Math.Seq.{take-append-le}
 use Rattle.lists.specs.Lists.{put, shift_up, shift_down}
 use Rattle.lists.proofs.Places.{put_before, put_behind, put_same_length, part_in_front}
 
@@ -39,19 +39,18 @@ module _ (l x y : List ℕ) (m : ℕ) (h : m + length x + length y ≤ length l)
       let b : drop (m + length x) (put l m x) ≡ drop (m + length x) l = put_behind l x m room in
       rw (f, b) (append_assoc (take m l) x _ ∙ both)
 
--- ---- A chunk_length.
+-- ---- A chunk.
 
 -- Numbers that were copied into a buffer, and from it to another place.
 pub chunk_moved : (l buffer : List ℕ) (from to n : ℕ) (x z : List ℕ) → from + n ≤ length l → to + n ≤ length l
-    → x ≡ take (from + n - from) (drop from l) → z ≡ take (n - 0) (drop 0 (take 0 buffer ++ (x ++ drop (n - 0) (drop 0 buffer))))
+    → x ≡ take (from + n - from) (drop from l) → z ≡ take n (x ++ drop n buffer)
     → take to l ++ (z ++ drop (to + n - to) (drop to l)) ≡ put l to (take n (drop from l))
 chunk_moved l buffer from to n x z h k e f =
     let a : from + n - from ≡ n = omega arith in
     let b : to + n - to ≡ n = omega arith in
     let c : length (take n (drop from l)) ≡ n = length-take-le n (drop from l) (rw length-drop (omega arith)) in
     let y : x ≡ take n (drop from l) = rw a at e in
-    let d : n - 0 ≡ n = omega arith in
-    let w : z ≡ take n (drop from l) = (rw d at f) ∙ take_at x _ n (ap length y ∙ c) ∙ y in
+    let w : z ≡ take n (drop from l) = f ∙ take_at x _ n (ap length y ∙ c) ∙ y in
     rw (w, b, c)
 
 -- ---- Up and down.

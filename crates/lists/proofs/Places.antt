@@ -1,6 +1,6 @@
 -- Lists cut into parts of one length, and perhaps longer: a part that is put in stands there, and what is outside it is as it was.
 use Rattle.std.proofs.Common.{◌≡◌, refl, sym, ap, ◌∙◌, List, [], ◌∷◌, ◌++◌, ◌⊎◌, inl, inr, ℕ, zero, suc, ◌+◌, ◌-◌, ◌*◌, ◌≤◌, ◌<◌, suc-mul, mul-le-mul_right, add-one, arith, length, take, drop, length-append, length-drop, take-append-drop, length-take-le, take-take, take_at, drop_at, drop-drop}
-use lib.Seq.{take-nil}
+use Rattle.std.proofs.Math.Seq.{take-nil}
 use Rattle.lists.specs.Lists.{part, put}
 
 -- ---- Numbers put in at a place.

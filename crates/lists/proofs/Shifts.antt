@@ -1,6 +1,6 @@
 -- Parts of one length moved by one place, in lists that may be longer: where each part stands, what stays, and what the first parts are then.
 use Rattle.std.proofs.Common.{◌≡◌, sym, ap, ◌∙◌, subst, List, ◌++◌, append_assoc, inl, inr, ℕ, ◌+◌, ◌-◌, ◌*◌, ◌≤◌, ◌<◌, suc-mul, add-mul, add-one, arith, length, take, drop, length-append, length-drop, take-append-drop, length-take-le, take-take, take-add, drop-drop, take_at, drop_at}
-use lib.Seq.{take-append-le, drop-append-le}
+use Rattle.std.proofs.Math.Seq.{take-append-le, drop-append-le}
 use Rattle.lists.specs.Lists.{part, put, shift_up, shift_down}
 use Rattle.lists.proofs.Places.{Outside, put_before, put_here, put_behind, put_same_length, part_end, part_in_front, part_outside, put_part, put_outside, put_long}
 

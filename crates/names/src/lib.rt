@@ -1,13 +1,12 @@
 // A table of names and a text's first line: where each word of a row comes from.
 #![tactic(auto)]
 
-pub mod layout;
-
 ghost use Rattle.std.specs.Prelude.{◌≡◌, map, length};
 ghost use Rattle.text.specs.Text.{fields_of};
 ghost use Rattle.names.specs.Sources.{source_of, sources_of, readable, is_column, each_once};
 ghost use Rattle.names.specs.Inner.{entry_of};
 
+use std::array;
 use text::pieces::column_of;
 
 // Where a word of a row comes from.
@@ -41,7 +40,7 @@ impl Source {
     }
 }
 
-// A name of a table: as a text has it, and where its word comes from if the first line lacks it.
+// A name of a table: as a text has it, and where its word comes from if the first line lacks it. Of today's names none may be absent.
 #[derive(Clone, Copy)]
 pub struct Entry<'a> {
     pub spelling: &'a [u8],
@@ -58,16 +57,13 @@ fn source_of(line: &[u8], entry: Entry<'_>) -> Source
     }
 }
 
-// The sources of a table's words, by a line of names.
+// The sources of a table's words, by a line of names. The table is a slice, and a clause says its length: an array of N entries, which hold
+// references, is not covered by the borrow checker.
 pub fn sources_of<const N: usize>(line: &[u8], table: &[Entry<'_>]) -> [Source; N]
     requires { length table.now ≡ N }
     ensures { result ≡ sources_of (map entry_of table.now) (fields_of line.now) }
 {
-    let mut sources = [Source::Missing; N];
-    for k in 0..N {
-        sources[k] = source_of(line, table[k]);
-    }
-    sources
+    array::from_fn(|k| source_of(line, table[k]))
 }
 
 // A line of `count` fields holds each name of a table once, or lacks one that may be absent, by the sources of the table's words.

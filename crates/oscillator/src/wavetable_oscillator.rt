@@ -15,6 +15,7 @@ pub fn advance(phase: f32, f0: f32) -> f32
 }
 
 // The coefficient of the filters that a reading goes through.
+#[tactic(auto, using(crate::proofs::Sizes::period_float), unfolding(crate::specs::Readings::cutoff_of, words::specs::Binary32::of_bits, words::specs::Binary32::decimal))]
 pub fn cutoff(f0: f32) -> f32
     ensures { result ≡ cutoff_of f0 }
 {
@@ -46,7 +47,7 @@ impl Differentiator {
     }
 }
 
-// What a table of waves can hold: numbers that have a float.
+// What a table of waves can hold: numbers that have a float. Not `Into<f32>`, whose clause is a relation and names no float.
 pub trait Entry: Copy {
     // The float of an entry, and what stands past a table's end, where nothing reads.
     ghost value: { Self → Float };
@@ -85,7 +86,7 @@ fn float_at<T: Entry>(table: &[T], i: usize) -> f32
     table[i].to_f32()
 }
 
-// Linear interpolation between two entries.
+// Linear interpolation between two entries. The line between two readings is written out here and in each other reading, as the source has it.
 #[tactic(auto, unfolding(crate::specs::Readings::interpolate_wave))]
 pub fn interpolate_wave<T: Entry>(table: &[T], index_integral: usize, index_fractional: f32) -> f32
     requires { index_integral + 1 < length table.now }

@@ -1,4 +1,5 @@
 // The lines that the program prints. They are put together piece by piece: by its contract `write!` may refuse a text for which there is room.
+// That there is room is a clause of each: how much is left changes with every line.
 ghost use Rattle.std.specs.Prelude.{◌≡◌, ◌+◌, ◌≤◌, ◌++◌, length, decimal};
 ghost use Rattle.arrayvec.specs.ArrayString.{array_string_len};
 ghost use Rattle.outputs.specs.Lines.{heading, counts_line, refused_line, edit_line, most_line};

@@ -1,6 +1,6 @@
 -- What an accepted score brings to rendering. Each of its lines was tested by its limits, and the rows that are left are those of its lines.
 use Rattle.std.proofs.Common.{◌≡◌, refl, sym, ap, ◌∙◌, Bool, true, false, cond, List, [], ◌∷◌, ◌++◌, append_assoc, ℕ, suc, ◌+◌, ◌*◌, arith, length, drop, length-append, length-drop, take_at, drop_at, Ok, Err, None}
-use lib.ListN.{length-map}
+use Rattle.std.proofs.Math.ListN.{length-map}
 use Rattle.names.specs.declared.Source.{Source}
 use Rattle.score.specs.declared.refusal.Refusal.TheVariants.{Limit, Names}
 use Rattle.score.specs.Numbers.{Tested, accepted}

@@ -1,14 +1,13 @@
 -- Document 01's own limits and texts, by the definitions: each fact is a computation.
 use Rattle.std.proofs.Common.{◌≡◌, refl, true, false, List, [], ◌∷◌, ◌++◌, ℕ, replicate, Ok}
-use lib.Ieee.{of_bits, le}
+use Rattle.std.specs.Float.Ieee.{of_bits, le}
 use Rattle.words.specs.Binary32.{decimal}
 use Rattle.lists.specs.Lists.{same}
 use Rattle.score.specs.Rows.{note, timbre, restart}
 use Rattle.score.specs.Limits.{float_to, limit, row_within}
 use Rattle.score.specs.declared.refusal.Refusal.TheVariants.{Names, Rows}
-use Rattle.text.specs.Text.{bytes, split, lines_of, column_of}
+use Rattle.text.specs.Text.{bytes, split, lines_of, column_of, is_digit, digit_of, each_digit, is_word, followed_by, word_of, each_word}
 use Rattle.names.specs.Sources.{sources_of, each_readable, column_count, each_once, holds_names}
-use Rattle.text.specs.Text.{is_digit, digit_of, each_digit, is_word, followed_by, word_of, each_word}
 use Rattle.values.specs.Lines.{holds_words, row_of, rows_of, test_line}
 use Rattle.reader.specs.Reading.{outcome, test_lines, test_text, text_rows, refuse, test_count, settle, read_text, score_table, read_of, edit_table, read_edits_of}
 

@@ -1,7 +1,7 @@
 -- What a tested text comes to: the cases of `test_count`, `settle` and `read_text`, each by the tests that lead to it.
-use Rattle.std.proofs.Common.{◌≡◌, refl, ap, ◌∙◌, Bool, true, false, cond, ◌&&◌, ◌||◌, List, [], ◌∷◌, ◌++◌, ℕ, suc, ◌+◌, ◌*◌, ◌/◌, ◌≤◌, ◌<◌, mul_comm, le-div_iff_mul-le, div-lt_iff_lt-mul, arith, lt-ltb, le-ltb, ltb-false, eqb, ltb, length, take, drop, Ok, Err, map, get_or}
-use borrow.Author.Tests.{eqb-false}
-use lib.ListN.{length-map}
+use Rattle.std.proofs.Common.{◌≡◌, refl, sym, ap, ◌∙◌, ⊎_elim, Bool, true, false, cond, ◌&&◌, ◌||◌, List, [], ◌∷◌, ◌++◌, ℕ, suc, ◌+◌, ◌*◌, ◌/◌, ◌≤◌, ◌<◌, mul_comm, le-div_iff_mul-le, div-lt_iff_lt-mul, arith, lt-ltb, le-ltb, ltb-false, eqb, ltb, length, take, drop, Ok, Err, map, get_or}
+use Rattle.std.proofs.lemmas.Bool.{eqb-false}
+use Rattle.std.proofs.Math.ListN.{length-map}
 use Rattle.score.specs.declared.refusal.Refusal.{Refusal}
 use Rattle.names.specs.declared.Source.{Source}
 use Rattle.score.specs.declared.refusal.Refusal.TheVariants.{Rows, Names, Space}
@@ -11,27 +11,23 @@ use Rattle.text.specs.Text.{lf, space as blank, Line, lines_of, first_of, fields
 use Rattle.names.specs.Sources.{Entry, source_of, sources_of, each_readable, column_count, each_once, holds_names}
 use Rattle.values.specs.Lines.{rows_of, test_line}
 use Rattle.reader.specs.Reading.{Answer, outcome, test_lines, test_text, text_rows, refuse, test_count, settle, read_text}
-use Rattle.lists.proofs.Cases.{both}
+use Rattle.lists.proofs.Cases.{both, le_or_lt}
 use Rattle.text.proofs.Split.{reach, first_piece}
 use Rattle.text.proofs.FirstLine.{first_line, open_line}
 use Rattle.values.proofs.Values.{unlimited, value}
 use Rattle.reader.proofs.Testing.{not_refused, both_pass}
 
 -- ---- 6, and then 12
+pub room_for : (words count lent : ℕ) → 0 < words → ltb lent (words * count) ≡ ltb (lent / words) count
+room_for words count lent some = ⊎_elim less enough (le_or_lt count (lent / words))
+  where
+    less : count ≤ lent / words → ltb lent (words * count) ≡ ltb (lent / words) count
+    less h = le-ltb lent (words * count) (rw (mul_comm words count) ((le-div_iff_mul-le some).0 h)) ∙ sym (le-ltb (lent / words) count h)
+
+    enough : lent / words < count → ltb lent (words * count) ≡ ltb (lent / words) count
+    enough h = lt-ltb lent (words * count) (rw (mul_comm words count) ((div-lt_iff_lt-mul some).0 h)) ∙ sym (lt-ltb (lent / words) count h)
+
 module _ (score : Bool) (words count lent : ℕ) where
-  pub wrong_count : score && (eqb count 0 || ltb most_rows count) ≡ true → Err Rows ≡ test_count score words count lent
-  unfolding test_count
-  wrong_count t = rw t
-
-  module _ (t : score && (eqb count 0 || ltb most_rows count) ≡ false) (some : 0 < words) where
-    pub no_space : lent / words < count → Err Space ≡ test_count score words count lent
-    unfolding test_count
-    no_space h = rw (t, lt-ltb lent (words * count) (rw (mul_comm words count) ((div-lt_iff_lt-mul some).0 h)))
-
-    pub right_count : count ≤ lent / words → accepted ≡ test_count score words count lent
-    unfolding test_count
-    right_count h = rw (t, le-ltb lent (words * count) (rw (mul_comm words count) ((le-div_iff_mul-le some).0 h)))
-
   -- what is not refused has room
   pub room : test_count score words count lent ≡ accepted → words * count ≤ lent
   unfolding test_count

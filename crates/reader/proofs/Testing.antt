@@ -1,12 +1,12 @@
 -- Lines tested one after the other: the first decides, or those that are left.
-use Rattle.std.proofs.Common.{◌≡◌, refl, sym, ap, ◌∙◌, Bool, List, ℕ, suc, ◌+◌, ◌*◌, ◌≤◌, ◌<◌, add-one, arith, length, drop, length-drop, drop_of_length-le, Ok, Err, true≢false}
+use Rattle.std.proofs.Common.{◌≡◌, refl, sym, ap, ◌∙◌, Bool, List, [], ◌∷◌, ℕ, suc, ◌+◌, ◌*◌, ◌≤◌, ◌<◌, add-one, arith, length, drop, Ok, Err, true≢false}
 use Rattle.std.specs.Result.{is_ok, result_and, IsErrAnd}
 use Rattle.score.specs.declared.refusal.Refusal.{Refusal}
 use Rattle.score.specs.Numbers.{Tested, accepted}
 use Rattle.text.specs.Text.{lines_of, rest_of}
 use Rattle.names.specs.declared.Source.{Source}
 use Rattle.values.specs.Lines.{test_line}
-use Rattle.values.specs.Inner.{field_bytes, line_at}
+use Rattle.values.specs.Inner.{field_bytes, first_line}
 use Rattle.reader.specs.Reading.{Answer, test_lines}
 use Rattle.text.proofs.FirstLine.{some_line, no_line}
 use Rattle.values.proofs.Values.{next_line}
@@ -35,31 +35,35 @@ pub both_pass : (t : Tested) (a : Answer) (c : ℕ) → result_and t a ≡ Ok c 
 both_pass (Ok u) a c e = (refl, e)
 both_pass (Err r) a c e = absurd (not_both r c e)
 
-module _ (n : ℕ) (sources : List Source) (score : Bool) (text : List ℕ) where
-  -- What the lines from `from` on come to, the first of them number `at`, and the test of the line there.
-  abbrev pub tested_from : ℕ → ℕ → Answer
-  tested_from from at = test_lines n sources score at (lines_of (drop from text))
+no_bytes : (text : List ℕ) → length text ≡ 0 → text ≡ []
+no_bytes [] e = refl
+no_bytes (b ∷ text) e = absurd (omega arith)
 
-  abbrev pub test_at : ℕ → ℕ → Tested
-  test_at from at = test_line n sources score at (line_at text from)
+module _ (n : ℕ) (sources : List Source) (score : Bool) where
+  -- What the lines of a text come to, the first of them number `at`, and the test of the line there.
+  abbrev pub tested_from : List ℕ → ℕ → Answer
+  tested_from text at = test_lines n sources score at (lines_of text)
 
-  pub record Left (next from at : ℕ) : Type 0 where
-    pub inside : from ≤ length text
-    pub counted : at ≤ from
-    pub left : tested_from next 0 ≡ tested_from from at
+  abbrev pub test_at : List ℕ → ℕ → Tested
+  test_at text at = test_line n sources score at (first_line text)
 
-  module _ (from at : ℕ) where
-    pub none_left : length text ≤ from → tested_from from at ≡ Ok at
+  -- Of a text the first `at` lines are tested, and `rest` is left.
+  pub record Left (text rest : List ℕ) (at : ℕ) : Type 0 where
+    pub counted : at + length rest ≤ length text
+    pub left : tested_from text 0 ≡ tested_from rest at
+
+  module _ (text : List ℕ) (at : ℕ) where
+    pub none_left : length text ≡ 0 → tested_from text at ≡ Ok at
     unfolding test_lines
-    none_left h = rw (drop_of_length-le text h, no_line)
+    none_left h = rw (no_bytes text h, no_line)
 
-    module _ (h : from < length text) where
-      pub first_tested : tested_from from at ≡ result_and (test_at from at) (test_lines n sources score (suc at) (rest_of (lines_of (drop from text))))
+    module _ (h : 0 < length text) where
+      pub first_tested : tested_from text at ≡ result_and (test_at text at) (test_lines n sources score (suc at) (rest_of (lines_of text)))
       unfolding test_lines
-      first_tested = ap (test_lines n sources score at) (some_line (drop from text) (omega (arith, length-drop from text)))
+      first_tested = ap (test_lines n sources score at) (some_line text h)
 
-      pub line_refused : (r : Refusal) → test_at from at ≡ Err r → tested_from from at ≡ Err r
+      pub line_refused : (r : Refusal) → test_at text at ≡ Err r → tested_from text at ≡ Err r
       line_refused r e = first_tested ∙ rw e
 
-      pub line_passes : (some : 0 < n) → test_at from at ≡ accepted → tested_from from at ≡ tested_from (from + n * field_bytes) (at + 1)
-      line_passes some z = first_tested ∙ rw (z, next_line n sources score at text from some z, add-one)
+      pub line_passes : (some : 0 < n) → test_at text at ≡ accepted → tested_from text at ≡ tested_from (drop (n * field_bytes) text) (at + 1)
+      line_passes some z = first_tested ∙ rw (z, next_line n sources score at text some z, add-one)

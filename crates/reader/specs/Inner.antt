@@ -1,5 +1,5 @@
 -- What the reader's inner functions promise each other.
-use Rattle.std.proofs.Common.{ℕ, Bool, List, length}
+use Rattle.std.specs.Prelude.{ℕ, Bool, List, length}
 use Rattle.text.specs.Text.{Line}
 use Rattle.names.specs.declared.Source.{Source}
 use Rattle.values.specs.Lines.{rows_of}

@@ -1,5 +1,5 @@
 -- Document 01, "Calls and their numbers" for the reader, and "The program `retake`" for the edits text: the refusals in their order, and what a call leaves.
-use Rattle.std.proofs.Common.{ℕ, suc, ◌*◌, ◌≤◌, ◌<◌, ◌≡◌, Bool, true, false, ◌&&◌, ◌||◌, cond, List, [], ◌∷◌, ◌++◌, map, length, drop, ltb, eqb, Result, Ok, Err}
+use Rattle.std.specs.Prelude.{ℕ, suc, ◌*◌, ◌≤◌, ◌<◌, ◌≡◌, Bool, true, false, ◌&&◌, ◌||◌, cond, List, [], ◌∷◌, ◌++◌, map, length, drop, ltb, eqb, Result, Ok, Err}
 use Rattle.std.specs.Result.{result_and}
 use Rattle.score.specs.declared.refusal.Refusal.{Refusal}
 use Rattle.score.specs.declared.refusal.Refusal.TheVariants.{Rows, Names, Space}

@@ -39,6 +39,10 @@ passed : (b : Bool) (r : Refusal) (x : Tested) → cond b (Err r) x ≡ nothing_
 passed true r x e = cc
 passed false r x e = (refl, e)
 
+-- 8 lets a position through.
+pub right_position : (n : ℕ) (c : Call) → cond (wrong_position n c) (Err (refusal.Position (position c))) nothing_refused ≡ nothing_refused → wrong_position n c ≡ false
+right_position n c e = (passed (wrong_position n c) (refusal.Position (position c)) nothing_refused e).0
+
 both_pass : (a b : Tested) → result_and a b ≡ nothing_refused → (a ≡ nothing_refused) × (b ≡ nothing_refused)
 both_pass (Ok u) b e = (refl, e)
 both_pass (Err r) b e = cc

@@ -1,13 +1,18 @@
 -- A call's refusal, by each of its tests in turn.
-use Rattle.std.proofs.Common.{◌≡◌, ℕ, List, true, false, Err}
+use Rattle.std.proofs.Common.{◌≡◌, sym, ℕ, List, Bool, true, false, cond, Err}
 use Rattle.score.specs.declared.refusal.Refusal.{Refusal}
 use Rattle.score.specs.declared.refusal.Refusal.TheVariants.{Position, Full}
-use Rattle.score.specs.Numbers.{accepted}
+use Rattle.score.specs.Numbers.{Tested, accepted}
 use Rattle.score.specs.Limits.{limit_refusal}
 use Rattle.rows.specs.Rows.{Setup, Take}
 use Rattle.refusals.specs.declared.Call.{Call}
 use Rattle.refusals.specs.Calls.{count_after, rows_after, position}
 use Rattle.refusals.specs.Refusals.{wrong_position, full, settings_refusal, lengths_refusal, score_refusal, refusal_of}
+
+-- A test that refuses has its own refusal.
+told : (b : Bool) (x : Refusal) (y : Tested) (r : Refusal) → cond b (Err x) accepted ≡ Err r → Err r ≡ cond b (Err x) y
+told true x y r e = sym e
+told false x y r e = cc
 
 module _ (s : Setup) (n : ℕ) (rows : List ℕ) (t : Take) (c : Call) where
   pub by_settings : (r : Refusal) → settings_refusal s ≡ Err r → Err r ≡ refusal_of s n rows t c
@@ -20,9 +25,9 @@ module _ (s : Setup) (n : ℕ) (rows : List ℕ) (t : Take) (c : Call) where
     by_lengths r e = rw (first, e)
 
     module _ (second : lengths_refusal s n rows t c ≡ accepted) where
-      pub by_position : wrong_position n c ≡ true → Err (Position (position c)) ≡ refusal_of s n rows t c
+      pub by_position : (r : Refusal) → cond (wrong_position n c) (Err (Position (position c))) accepted ≡ Err r → Err r ≡ refusal_of s n rows t c
       unfolding refusal_of score_refusal
-      by_position w = rw (first, second, w)
+      by_position r e = rw (first, second) (told (wrong_position n c) _ _ r e)
 
       pub by_full : wrong_position n c ≡ false → full s n rows t c ≡ true → Err Full ≡ refusal_of s n rows t c
       unfolding refusal_of score_refusal

@@ -1,6 +1,6 @@
 -- The calls over a score and a take, and the score that each leaves: whole rendering and an edit of document 01, an insertion and a removal of
 -- document 02. Each is handed a row count beside the lent words, which may be longer than the score.
-use Rattle.std.specs.Prelude.{ℕ, ◌+◌, ◌-◌, List}
+use Rattle.std.specs.Prelude.{ℕ, ◌+◌, ◌-◌, List, codes, Option, None, Some}
 use Rattle.score.specs.Rows.{most_rows, put_row, insert_row, remove_row}
 use Rattle.refusals.specs.declared.Call.{Call}
 use Rattle.refusals.specs.declared.Call.TheVariants.{Render, Edit, Insert, Remove}
@@ -25,6 +25,18 @@ position Render = 0
 position (Edit k row) = k
 position (Insert p row) = p
 position (Remove p) = p
+
+-- The row that a call is about, where it is about one.
+unfoldable pub position_of : Call → Option ℕ
+position_of Render = None
+position_of c = Some (position c)
+
+-- What a call is called.
+unfoldable pub name_of : Call → List ℕ
+name_of Render = codes "render"
+name_of (Edit k row) = codes "edit"
+name_of (Insert p row) = codes "insert"
+name_of (Remove p) = codes "remove"
 
 -- The counts that a call takes: from 1 to 4,096, but "Removing the only row gives 6, as does an insertion into 4,096 rows."
 unfoldable pub least_count : Call → ℕ

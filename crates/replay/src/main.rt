@@ -8,88 +8,50 @@
 
 use oscillator::bank::BANK_LENGTH;
 use refusals::Call;
-use rows::{Patch, Report, Settings, Take};
+use rows::{Patch, Report, Settings};
 use score::refusal::Refusal;
 use score::rows::ROW_WORDS;
+use std::io;
+use std::io::{Error, ErrorKind, Read};
 use terrain::MAP_LENGTH;
-use trial::{fill_tables, read_input, say, sum_of};
+use trial::{fill_tables, sum_of};
+use utils::engine::MOST_FRAMES;
 use voice::{KEPT_WORDS, TERRAIN_WITH_MAP};
 
 const MOST_ROWS: usize = 64;
 
-const MOST_FRAMES: usize = 128;
-
 const MOST_CALLS: usize = 8;
-
-const MOST_WORDS: usize = 16384;
 
 // What stands in a row word, a sample and a kept word before anything is written there: a NaN's pattern, outside every limit.
 const JUNK: u32 = 0xffffffff;
 
 // ---- The input
 
-// The words of the input that are still to be read.
-#[derive(Drop)]
-struct Input<'a> {
-    words: &'a [u32],
+// The next words.
+fn next<const N: usize>(input: &mut impl Read) -> io::Result<[u32; N]> {
+    let mut words = [0; N];
+    for word in &mut words {
+        let mut bytes = [0; 4];
+        input.read_exact(&mut bytes)?;
+        *word = u32::from_le_bytes(bytes);
+    }
+    Ok(words)
 }
 
-impl Input<'_> {
-    // The next word, 0 past the end.
-    fn next(&mut self) -> u32 {
-        match self.words.split_first() {
-            Some((word, rest)) => {
-                self.words = rest;
-                *word
-            }
-            None => 0,
-        }
-    }
-
-    // The next words as a row's.
-    fn next_row(&mut self) -> [u32; ROW_WORDS] {
-        let mut row = [0; ROW_WORDS];
-        for word in &mut row {
-            *word = self.next();
-        }
-        row
-    }
-
-    // The next words as a call.
-    fn next_call(&mut self) -> Call {
-        let kind = self.next();
-        let position = self.next() as usize;
-        let row = self.next_row();
-        match kind {
-            0 => Call::Edit(position, row),
-            1 => Call::Insert(position, row),
-            _ => Call::Remove(position),
-        }
-    }
-
-    // The next words as a score, where it is not too large. Its rows and its calls come behind it.
-    fn next_score(&mut self) -> Option<Score> {
-        let settings = Settings {
-            instrument: self.next(),
-            rate: self.next(),
-            frames: self.next() as usize,
-        };
-        let seed = self.next();
-        let rows = self.next() as usize;
-        let calls = self.next() as usize;
-        if rows > MOST_ROWS || settings.frames > MOST_FRAMES || calls > MOST_CALLS {
-            return None;
-        }
-        Some(Score {
-            settings,
-            seed,
-            rows,
-            calls,
-        })
+// The next words as a call.
+fn next_call(input: &mut impl Read) -> io::Result<Call> {
+    let [kind, position] = next::<2>(input)?;
+    let position = position as usize;
+    let row = next(input)?;
+    match kind {
+        0 => Ok(Call::Edit(position, row)),
+        1 => Ok(Call::Insert(position, row)),
+        2 => Ok(Call::Remove(position)),
+        _ => Err(Error::new(ErrorKind::InvalidData, "a call of no kind")),
     }
 }
 
-// What a score is played with.
+// What a score is played with. Its rows and its calls come behind it.
 #[derive(Clone, Copy)]
 struct Score {
     settings: Settings,
@@ -98,64 +60,57 @@ struct Score {
     calls: usize,
 }
 
-// The words of some bytes, low byte first, and zeros behind them.
-fn words_of(bytes: &[u8]) -> [u32; MOST_WORDS] {
-    let mut words = [0; MOST_WORDS];
-    for (word, bytes) in words.iter_mut().zip(bytes.chunks_exact(4)) {
-        *word = u32::from_le_bytes(bytes.try_into().unwrap_or_default());
+// The next words as a score, where it is not too large.
+fn next_score(input: &mut impl Read) -> io::Result<Score> {
+    let [instrument, rate, frames, seed, rows, calls] = next::<6>(input)?;
+    let settings = Settings {
+        instrument,
+        rate,
+        frames: frames as usize,
+    };
+    let score = Score {
+        settings,
+        seed,
+        rows: rows as usize,
+        calls: calls as usize,
+    };
+    if score.rows > MOST_ROWS || settings.frames > MOST_FRAMES || score.calls > MOST_CALLS {
+        return Err(Error::new(ErrorKind::InvalidData, "a score that is too large"));
     }
-    words
+    Ok(score)
 }
 
 // ---- The lent words
 
-#[derive(Drop)]
-struct Words {
-    rows: [u32; MOST_ROWS * ROW_WORDS],
-    out: [u32; MOST_ROWS * MOST_FRAMES],
-    aux: [u32; MOST_ROWS * MOST_FRAMES],
-    kept: [u32; MOST_ROWS * KEPT_WORDS],
+const ROW_ROOM: usize = MOST_ROWS * ROW_WORDS;
+
+const SAMPLE_ROOM: usize = MOST_ROWS * MOST_FRAMES;
+
+const KEPT_ROOM: usize = MOST_ROWS * KEPT_WORDS;
+
+type Words = trial::Words<ROW_ROOM, SAMPLE_ROOM, KEPT_ROOM>;
+
+// The rows that come next in the input, and junk in all other words.
+fn next_words(input: &mut impl Read, rows: usize) -> io::Result<Words> {
+    let mut words = Words {
+        rows: [JUNK; ROW_ROOM],
+        out: [JUNK; SAMPLE_ROOM],
+        aux: [JUNK; SAMPLE_ROOM],
+        kept: [JUNK; KEPT_ROOM],
+    };
+    for row in words.rows.chunks_exact_mut(ROW_WORDS).take(rows) {
+        row.copy_from_slice(&next::<ROW_WORDS>(input)?);
+    }
+    Ok(words)
 }
 
-impl Words {
-    // The rows that come next in the input, and junk in all other words.
-    fn new(input: &mut Input<'_>, rows: usize) -> Self {
-        let mut words = Words {
-            rows: [JUNK; MOST_ROWS * ROW_WORDS],
-            out: [JUNK; MOST_ROWS * MOST_FRAMES],
-            aux: [JUNK; MOST_ROWS * MOST_FRAMES],
-            kept: [JUNK; MOST_ROWS * KEPT_WORDS],
-        };
-        for row in words.rows.chunks_exact_mut(ROW_WORDS).take(rows) {
-            row.copy_from_slice(&input.next_row());
-        }
-        words
-    }
-
-    // What a call answers, on a score of `count` rows.
-    fn answer(&mut self, patch: Patch<'_>, call: Call, count: usize) -> Result<Report, Refusal> {
-        let rows = &mut self.rows;
-        let take = &mut Take {
-            out: &mut self.out,
-            aux: &mut self.aux,
-            kept: &mut self.kept,
-        };
-        match call {
-            Call::Render => take::render(patch, rows, count, take),
-            Call::Edit(position, row) => take::edit(patch, rows, count, position, row, take),
-            Call::Insert(position, row) => take::insert(patch, rows, count, position, row, take),
-            Call::Remove(position) => take::remove(patch, rows, count, position, take),
-        }
-    }
-
-    // Writes what the take of a number of rows comes to.
-    fn say_take(&self, rt: &impl Print, count: usize, frames: usize) {
-        let samples = count.saturating_mul(frames);
-        let out = sum_of_first(&self.out, samples);
-        let aux = sum_of_first(&self.aux, samples);
-        let kept = sum_of_first(&self.kept, count.saturating_mul(KEPT_WORDS));
-        let _ = println!(rt; " {out} {aux} {kept}");
-    }
+// Writes what the take of a number of rows comes to.
+fn say_take(rt: &impl Print, words: &Words, count: usize, frames: usize) -> io::Result<()> {
+    let samples = count.saturating_mul(frames);
+    let out = sum_of_first(&words.out, samples);
+    let aux = sum_of_first(&words.aux, samples);
+    let kept = sum_of_first(&words.kept, count.saturating_mul(KEPT_WORDS));
+    println!(rt; " {out} {aux} {kept}")
 }
 
 // A number that tells the first n words from others, or all of them where there are fewer.
@@ -166,26 +121,23 @@ fn sum_of_first(words: &[u32], n: usize) -> u64 {
 // ---- The lines
 
 // Writes the numbers of a call's success, or the two of its refusal.
-fn say_answer(rt: &impl Print, answer: Result<Report, Refusal>) {
-    let _ = match answer {
-        Ok(Report { rows, holds: h }) => {
-            print!(rt;
-                " {rows} {} {} {} {} {} {}",
-                h.held, h.phase, h.wave_position, h.level, h.map, h.bank
-            )
-        }
+fn say_answer(rt: &impl Print, answer: Result<Report, Refusal>) -> io::Result<()> {
+    match answer {
+        Ok(Report { rows, holds: h }) => print!(rt;
+            " {rows} {} {} {} {} {} {}",
+            h.held, h.phase, h.wave_position, h.level, h.map, h.bank
+        ),
         Err(refusal) => print!(rt; " refused {refusal}"),
-    };
+    }
 }
 
 // Writes a call's name, and its position where it has one.
-fn say_call(rt: &impl Print, call: Call) {
-    let _ = match call {
-        Call::Render => print!(rt; "render"),
-        Call::Edit(position, _) => print!(rt; "edit {position}"),
-        Call::Insert(position, _) => print!(rt; "insert {position}"),
-        Call::Remove(position) => print!(rt; "remove {position}"),
-    };
+fn say_call(rt: &impl Print, call: Call) -> io::Result<()> {
+    let name = call.name();
+    match call.position() {
+        None => print!(rt; "{name}"),
+        Some(position) => print!(rt; "{name} {position}"),
+    }
 }
 
 // The row count after a call on a score of `count` rows. There is room for 64.
@@ -204,65 +156,51 @@ fn perform(
     call: Call,
     words: &mut Words,
     count: usize,
-) -> usize {
-    let answer = words.answer(patch, call, count);
-    say_call(rt, call);
-    say_answer(rt, answer);
-    count_after(call, count, answer)
+) -> io::Result<usize> {
+    let answer = words.call(patch, count, call);
+    say_call(rt, call)?;
+    say_answer(rt, answer)?;
+    Ok(count_after(call, count, answer))
 }
 
 // Renders a score, and does the calls that come next in the input: a line for each, and one for the take that they leave where there were any.
-fn play(rt: &impl Print, input: &mut Input<'_>, score: Score, patch: Patch<'_>) {
+fn play(rt: &impl Print, input: &mut impl Read, score: Score, patch: Patch<'_>) -> io::Result<()> {
     let frames = score.settings.frames;
-    let mut words = Words::new(input, score.rows);
-    let mut count = perform(rt, patch, Call::Render, &mut words, score.rows);
-    words.say_take(rt, count, frames);
+    let mut words = next_words(input, score.rows)?;
+    let mut count = perform(rt, patch, Call::Render, &mut words, score.rows)?;
+    say_take(rt, &words, count, frames)?;
     for _ in 0..score.calls {
-        count = perform(rt, patch, input.next_call(), &mut words, count);
-        say(rt, b"\n");
+        count = perform(rt, patch, next_call(input)?, &mut words, count)?;
+        println!(rt)?;
     }
     if score.calls > 0 {
-        say(rt, b"take");
-        words.say_take(rt, count, frames);
+        print!(rt; "take")?;
+        say_take(rt, &words, count, frames)?;
     }
+    Ok(())
 }
 
-// The same with the bank and the map of the score's seed.
-fn play_seed(rt: &impl Print, input: &mut Input<'_>, score: Score) {
+// The next score of the input, with the bank and the map of its seed.
+fn play_next(rt: &impl Print, input: &mut impl Read) -> io::Result<()> {
+    let score = next_score(input)?;
     let mut bank = [0i16; BANK_LENGTH];
     let mut map = [0u8; MAP_LENGTH];
     fill_tables(score.seed, &mut bank, &mut map);
     let settings = score.settings;
-    let maps = if settings.instrument == TERRAIN_WITH_MAP {
-        MAP_LENGTH
-    } else {
-        0
-    };
+    let with_map = settings.instrument == TERRAIN_WITH_MAP;
     let patch = Patch {
         settings,
         bank: &bank,
-        map: &map[..maps],
+        map: if with_map { &map } else { b"" },
     };
-    play(rt, input, score, patch);
+    play(rt, input, score, patch)
 }
 
-// Plays each score of the input, in order, up to its end or a score that is too large.
-fn play_all(rt: &impl Print, words: &[u32]) {
-    let mut input = Input { words };
-    let count = input.next();
+fn main(rt: HostRuntime) -> io::Result<()> {
+    let mut input = rt.reader();
+    let [count] = next::<1>(&mut input)?;
     for _ in 0..count {
-        if input.words.is_empty() {
-            return;
-        }
-        match input.next_score() {
-            Some(score) => play_seed(rt, &mut input, score),
-            None => return,
-        }
+        play_next(&rt, &mut input)?;
     }
-}
-
-fn main(rt: HostRuntime) {
-    let mut bytes = [0u8; MOST_WORDS * 4];
-    let got = read_input(&rt, &mut bytes);
-    play_all(&rt, &words_of(&bytes[..got]));
+    Ok(())
 }

@@ -2,7 +2,8 @@
 // `first` and `second`: the row count and 0 (reader), the byte count and 0 (writer), the rows rendered and `held` (rendering, edit, insertion,
 // removal), the place and 0 (a refusal). Rendering, edit, insertion and removal also write the five counts of what was held, zeros on a refusal.
 // The score and its take stand at the start of the lent words; `count` says how many rows it has.
-// Refusals are numbers here, and what is lent comes one by one with no struct: the C interface needs it.
+// Refusals are numbers here, and what is lent comes one by one with no struct: the C interface needs it. An edit and an insertion are two
+// functions with the same parameters, as the header has them.
 #![tactic(auto)]
 
 ghost use Rattle.std.specs.Prelude.{◌≡◌, ◌∷◌, []};
@@ -44,7 +45,7 @@ fn give_count(answer: Result<usize, Refusal>, first: &mut u64, second: &mut u64)
     }
 }
 
-// The five counts of an answer, zeros of a refusal.
+// The five counts of an answer, zeros of a refusal. No `From`: neither an array nor a `Result` is a type of this crate.
 fn counts_of(answer: Result<Report, Refusal>) -> [u64; 5]
     ensures { result ≡ counts_in answer }
 {
@@ -82,7 +83,7 @@ fn give_report(
     }
 }
 
-// What a call is lent beside the rows.
+// What a call is lent beside the rows, put together from what C hands one by one.
 fn patch_of<'a>(
     instrument: u32,
     rate: u32,

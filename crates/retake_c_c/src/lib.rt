@@ -1,6 +1,7 @@
 // The static library for hosts, `libretake_c.a`: what C calls. Each function is the one of `retake_c` under the same name, with the same clauses,
 // which include/retake.h declares and explains.
-// The twins of `retake_c` are whole functions with clauses of their own: the C interface needs them in a static library.
+// The twins of `retake_c` are whole functions with clauses of their own: C links a static library, which no crate can depend on, and `c_calls` needs
+// these functions from a crate that it can depend on.
 #![tactic(auto)]
 
 ghost use Rattle.std.specs.Prelude.{◌≡◌, ◌∷◌, []};

@@ -36,9 +36,9 @@ take_replicate zero n h = refl
 take_replicate (suc k) zero h = absurd (omega arith)
 take_replicate (suc k) (suc n) h = ap (λ (l : List ℕ). 0 ∷ l) (take_replicate k n (omega arith))
 
-pub part_of_zeros : {l : List ℕ} (n k : ℕ) → l ≡ zeros n → k ≤ n → take k l ≡ zeros k
+pub part_of_zeros : (n k : ℕ) → k ≤ n → take {A = ℕ} k (replicate n 0) ≡ zeros k
 unfolding zeros
-part_of_zeros {l} n k e h = rw e (take_replicate k n h)
+part_of_zeros n k h = take_replicate k n h
 
 pub played_blank : (s : Setup) (n : ℕ) (rows : List ℕ) (es : List Call) {out aux kept : List ℕ} {w : Output}
     → out ≡ zeros (n * frames) → aux ≡ zeros (n * frames) → kept ≡ zeros (n * kept_count)

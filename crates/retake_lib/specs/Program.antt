@@ -28,10 +28,6 @@ unfoldable pub edits_from : ℕ → List ℕ → List Call
 edits_from zero words = []
 edits_from (suc n) words = edit_from words ∷ edits_from n (drop edit_words words)
 
--- Edit k of the edits' words.
-abbrev pub edit_at : List ℕ → ℕ → Call
-edit_at words k = edit_from (drop (k * edit_words) words)
-
 -- ---- What the program does.
 
 -- "Instrument 0, 48,000 Hz, 24 frames"

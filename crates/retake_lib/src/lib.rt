@@ -43,7 +43,8 @@ fn turned(refusal: Refusal) -> Written
     }
 }
 
-// The program: by the bytes of `score.txt`, `edits.txt` and `bank.bin`, what is printed, and the files that are written.
+// The program: by the bytes of `score.txt`, `edits.txt` and `bank.bin`, what is printed, and the files that are written. Three slices and no struct:
+// each is handed on once, to a test of its own.
 pub fn run(score: &[u8], edits: &[u8], bank: &[u8]) -> Written
     ensures { output_in result ≡ program score.now edits.now bank.now }
 {

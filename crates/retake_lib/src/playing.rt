@@ -1,19 +1,18 @@
 // The whole rendering of a score and the edits after it, on the program's instrument.
 ghost use Rattle.std.specs.Prelude.{◌≡◌, ◌+◌, ◌*◌, ◌≤◌, length, map, take};
 ghost use Rattle.score.specs.Rows.{row_words};
-ghost use Rattle.reader.specs.Reading.{edit_words};
 ghost use Rattle.arrayvec.specs.ArrayString.{array_string_len};
 ghost use Rattle.rows.specs.Rows.{setup_by, words_of, SamePlaces};
 ghost use Rattle.retakes.specs.Retakes.{reel};
 ghost use Rattle.inputs.specs.Inputs.{bytes_of_bank, Within};
 ghost use Rattle.outputs.specs.Files.{file_in, files_of};
 ghost use Rattle.outputs.specs.Lines.{most_line};
-ghost use Rattle.retake_lib.specs.Program.{setup_with, setup_of, edit_at, edits_from, blank, played, output_in};
+ghost use Rattle.retake_lib.specs.Program.{setup_with, setup_of, edit_from, edits_from, blank, played, output_in};
 ghost use Rattle.retake_lib.specs.Edits.{EditDone, EditsDone, Room};
 
 use crate::{FILE_ROOM, PRINTED_ROOM, Written};
 use arrayvec::ArrayString;
-use inputs::{Inputs, MOST_ROWS, zeros};
+use inputs::{Inputs, MOST_ROWS};
 use oscillator::bank::BANK_LENGTH;
 use outputs::files::{OutputFile, files_of};
 use outputs::lines::{put_answer, put_heading};
@@ -34,54 +33,43 @@ const SETTINGS: Settings = Settings {
     frames: FRAMES,
 };
 
-// Edit k of the edits' words, and its line.
+// An edit by its six words, and its line. The rows, their count and the take stand side by side, as the calls of `take` take them.
 fn edit(
     patch: Patch<'_>,
-    edits: &[u32],
-    k: usize,
+    words: [u32; EDIT_WORDS],
     rows: &mut [u32],
     n: usize,
     take: &mut Take<'_>,
     printed: &mut ArrayString<PRINTED_ROOM>,
 )
-    requires edit_words_in_bounds { k * edit_words + edit_words ≤ length edits.now }
-    requires most_line_in_bounds { array_string_len printed.old + most_line ≤ PRINTED_ROOM }
+    requires { array_string_len printed.old + most_line ≤ PRINTED_ROOM }
     ensures same_places { SamePlaces take.old take.new }
-    ensures done { EditDone (setup_by patch.entry) (edit_at edits.now k)
+    ensures done { EditDone (setup_by patch.entry) (edit_from words)
         (reel n rows.old (words_of take.old)) (reel n rows.new (words_of take.new)) printed.old.bytes printed.new.bytes }
     ensures len { array_string_len printed.new ≤ array_string_len printed.old + most_line }
 {
-    let a = k * EDIT_WORDS;
-    let position = edits[a];
-    let row = [
-        edits[a + 1],
-        edits[a + 2],
-        edits[a + 3],
-        edits[a + 4],
-        edits[a + 5],
-    ];
+    let [position, note, timbre, morph, harmonics, restart] = words;
+    let row = [note, timbre, morph, harmonics, restart];
     let answer = take::edit(patch, rows, n, position as usize, row, take);
     put_answer(position, answer, printed);
 }
 
-// So many edits, one after the other, and their lines.
+// Edits, one after the other, and their lines.
 fn edit_all(
     patch: Patch<'_>,
-    edits: &[u32],
-    count: usize,
+    edits: &[[u32; EDIT_WORDS]],
     rows: &mut [u32],
     n: usize,
     take: &mut Take<'_>,
     printed: &mut ArrayString<PRINTED_ROOM>,
 )
-    requires edit_words_in_bounds { count * edit_words ≤ length edits.now }
-    requires most_line_in_bounds { array_string_len printed.old + count * most_line ≤ PRINTED_ROOM }
+    requires { array_string_len printed.old + length edits.now * most_line ≤ PRINTED_ROOM }
     ensures same_places { SamePlaces take.old take.new }
-    ensures done { EditsDone (setup_by patch.entry) (edits_from count edits.now)
+    ensures done { EditsDone (setup_by patch.entry) (map edit_from edits.now)
         (reel n rows.old (words_of take.old)) (reel n rows.new (words_of take.new)) printed.old.bytes printed.new.bytes }
 {
-    for k in 0..count {
-        edit(patch, edits, k, rows, n, take, printed);
+    for words in edits {
+        edit(patch, *words, rows, n, take, printed);
     }
 }
 
@@ -94,7 +82,8 @@ fn files_in(take: &Take<'_>) -> [OutputFile<FILE_ROOM>; 2]
     files_of(take.out, take.aux)
 }
 
-// The rendering, the heading, the edits with their lines, and the files of what they left.
+// The rendering, the heading, the edits with their lines, and the files of what they left. The edits are words and a count, as the reader leaves
+// them.
 fn play_take(
     patch: Patch<'_>,
     edits: &[u32],
@@ -112,7 +101,8 @@ fn play_take(
     // A score that was read is never refused here.
     let _ = take::render(patch, rows, n, take);
     put_heading(&mut printed);
-    edit_all(patch, edits, count, rows, n, take, &mut printed);
+    let (edits, _) = edits.as_chunks();
+    edit_all(patch, &edits[..count], rows, n, take, &mut printed);
     Written {
         printed,
         files: Some(files_in(take)),
@@ -127,9 +117,9 @@ fn play_rows(bank: &[i16], given: Inputs) -> Written
 {
     let n = given.count;
     let mut rows = given.rows;
-    let mut out: [u32; MOST_ROWS * FRAMES] = zeros();
-    let mut aux: [u32; MOST_ROWS * FRAMES] = zeros();
-    let mut kept: [u32; MOST_ROWS * KEPT_WORDS] = zeros();
+    let mut out = [0; MOST_ROWS * FRAMES];
+    let mut aux = [0; MOST_ROWS * FRAMES];
+    let mut kept = [0; MOST_ROWS * KEPT_WORDS];
     let patch = Patch {
         settings: SETTINGS,
         bank,

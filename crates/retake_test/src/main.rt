@@ -6,80 +6,81 @@
 // for their length; the bank (three); and which of two or three refusals comes first.
 #![tactic(auto)]
 
-ghost use Rattle.std.specs.Prelude.{◌+◌, ◌≤◌, ◌<◌, length};
-ghost use Rattle.inputs.specs.Inputs.{bytes_of_bank};
-
+use arrayvec::ArrayVec;
 use inputs::BANK_BYTES;
 use outputs::files::OutputFile;
 use retake_lib::{BANK_ROOM, FILE_ROOM};
-use trial::{after, fill, read_input, say, say_number, sum_of, text_end};
+use std::io;
+use trial::{fill, sum_of};
 
 const INPUT_ROOM: usize = 65536;
 
-// As many of the bank's bytes as the case asks for.
-fn bank_length(how: u8) -> usize
-    ensures { result ≤ bytes_of_bank + 1 }
-{
+// What the program is handed: the bytes of its three files.
+#[derive(Clone, Copy)]
+struct Case<'a> {
+    score: &'a [u8],
+    edits: &'a [u8],
+    bank: &'a [u8],
+}
+
+// As much of the bank as the last byte of a case asks for.
+fn bank_for(how: u8, bank: &[u8; BANK_ROOM]) -> Option<&[u8]> {
     match how {
-        b'=' => BANK_BYTES,
-        b'<' => BANK_BYTES - 1,
-        b'>' => BANK_BYTES + 1,
-        _ => 0,
+        b'=' => Some(&bank[..BANK_BYTES]),
+        b'<' => Some(&bank[..BANK_BYTES - 1]),
+        b'>' => Some(bank),
+        b'!' => Some(b""),
+        _ => None,
     }
+}
+
+// A case by its text, where that is whole.
+fn case_of<'a>(text: &'a [u8], bank: &'a [u8; BANK_ROOM]) -> Option<Case<'a>> {
+    let (how, texts) = text.split_last()?;
+    let bank = bank_for(*how, bank)?;
+    let middle = texts.iter().position(|b| *b == b'~')?;
+    Some(Case {
+        score: &texts[..middle],
+        edits: &texts[middle + 1..],
+        bank,
+    })
 }
 
 // The files' length and sums.
-fn show_files(rt: &impl Print, files: &[OutputFile<FILE_ROOM>; 2]) {
+fn show_files(rt: &impl Print, files: &[OutputFile<FILE_ROOM>; 2]) -> io::Result<()> {
     let [out, aux] = files;
-    say(rt, b"files");
-    say_number(rt, out.bytes.len() as u64);
-    say_number(rt, sum_of(out.bytes.as_slice()));
-    say_number(rt, sum_of(aux.bytes.as_slice()));
-    say(rt, b"\n");
+    println!(rt;
+        "files {} {} {}",
+        out.bytes.len(),
+        sum_of(&out.bytes),
+        sum_of(&aux.bytes)
+    )
 }
 
-fn run_case(rt: &impl Print, score: &[u8], edits: &[u8], bank: &[u8]) {
-    let written = retake_lib::run(score, edits, bank);
-    say(rt, written.printed.as_str().as_bytes());
+fn run(rt: &impl Print, case: Case<'_>) -> io::Result<()> {
+    let written = retake_lib::run(case.score, case.edits, case.bank);
+    rt.print(written.printed.as_str())?;
     if let Some(files) = &written.files {
-        show_files(rt, files);
+        show_files(rt, files)?;
     }
-    say(rt, b"\n");
+    println!(rt)
 }
 
-// Runs the case that starts at `from`; where the next one starts.
-fn run_at(rt: &impl Print, input: &[u8], bank: &[u8], from: usize) -> usize
-    requires from_in_bounds { from < length input.now }
-    requires bank_bytes_in_bounds { bytes_of_bank < length bank.now }
-    ensures { (from < result) × (result ≤ length input.now) }
-{
-    let middle = text_end(input, from, b"~=<>!");
-    if middle == input.len() {
-        return middle;
+// Each case in its turn.
+fn run_all(rt: &impl Print, input: &[u8], bank: &[u8; BANK_ROOM]) -> io::Result<()> {
+    for text in input.split_inclusive(|b| b"=<>!".contains(b)) {
+        let text = text.strip_prefix(b"\n").unwrap_or(text);
+        if let Some(case) = case_of(text, bank) {
+            run(rt, case)?;
+        }
     }
-    let second = middle + 1;
-    let end = text_end(input, second, b"~=<>!");
-    if end == input.len() {
-        return end;
-    }
-    let b = bank_length(input[end]);
-    run_case(rt, &input[from..middle], &input[second..end], &bank[..b]);
-    after(input, end)
+    Ok(())
 }
 
-fn run_all(rt: &impl Print, input: &[u8], bank: &[u8])
-    requires { bytes_of_bank < length bank.now }
-{
-    let mut from = 0;
-    while from < input.len() {
-        from = run_at(rt, input, bank, from);
-    }
-}
-
-fn main(rt: HostRuntime) {
-    let mut input = [0u8; INPUT_ROOM];
+fn main(rt: HostRuntime) -> io::Result<()> {
+    let mut input = ArrayVec::<u8, INPUT_ROOM>::new();
+    io::copy(&mut rt.reader(), &mut input)?;
     let mut bank = [0u8; BANK_ROOM];
-    let size = read_input(&rt, &mut input);
     fill(1, &mut bank);
-    run_all(&rt, &input[..size], &bank);
+    run_all(&rt, &input, &bank)
 }

@@ -1,7 +1,7 @@
 -- What a run does to any take, by induction on its rows: the rows that it renders are made from the words that the take then keeps before
 -- them, no other row is written, and it stops at the first row from its stretch's end on that says so.
 use Rattle.std.proofs.Common.{◌≡◌, refl, sym, ap, ◌∙◌, subst, List, Bool, true, false, cond, ◌⊎◌, inl, inr, ℕ, zero, suc, ◌+◌, ◌≤◌, ◌<◌, arith, eq-or-lt_of_le, le_refl, eqb-true, eqb}
-use borrow.Author.Tests.{eqb-false}
+use Rattle.std.proofs.lemmas.Bool.{eqb-false}
 use Rattle.lists.specs.Lists.{same}
 use Rattle.utils.specs.Holds.{none, plus, total}
 use Rattle.utils.specs.declared.holds.Holds.{Holds}

@@ -11,7 +11,7 @@ ghost use Rattle.rows.specs.Ends.{end_of};
 use score::rows::{HARMONICS, MORPH, NOTE, ROW_WORDS, TIMBRE};
 use utils::engine::EngineParameters;
 use utils::holds::Holds;
-use voice::KEPT_WORDS;
+use voice::{KEPT_WORDS, State, voice_of};
 
 // What stays the same from row to row: the instrument's number, the rate in Hz, and the frames of a row.
 // The instrument stays a number, as the C interface hands it: each call tests it.
@@ -22,7 +22,7 @@ pub struct Settings {
     pub frames: usize,
 }
 
-// What a call is lent beside the rows: the settings, the bank and the map.
+// What a call is lent beside the rows: the settings, the bank and the map. No map is a slice of length 0, as the C interface lends it.
 #[derive(Clone, Copy)]
 pub struct Patch<'a> {
     pub settings: Settings,
@@ -30,7 +30,7 @@ pub struct Patch<'a> {
     pub map: &'a [u8],
 }
 
-// A take, as it is lent: the samples, and the words kept after each row.
+// A take, as the C interface lends it: the samples, and the words kept after each row, each as one slice for all rows.
 #[derive(Drop)]
 pub struct Take<'a> {
     pub out: &'a mut [u32],
@@ -51,28 +51,20 @@ impl Settings {
     pub fn parameters(self, row: [u32; ROW_WORDS]) -> EngineParameters
         ensures { result ≡ parameters_of self.rate row }
     {
-        let note = words::of_word(row[NOTE]);
-        let timbre = words::of_word(row[TIMBRE]);
-        let morph = words::of_word(row[MORPH]);
-        let harmonics = words::of_word(row[HARMONICS]);
-        let a0_normalized = utils::engine::a0(self.rate);
         EngineParameters {
-            note,
-            timbre,
-            morph,
-            harmonics,
-            a0_normalized,
+            note: words::of_word(row[NOTE]),
+            timbre: words::of_word(row[TIMBRE]),
+            morph: words::of_word(row[MORPH]),
+            harmonics: words::of_word(row[HARMONICS]),
+            a0_normalized: utils::engine::a0(self.rate),
         }
     }
 
     // The fresh state of the instrument.
-    fn fresh_start(self) -> voice::State
+    fn fresh_start(self) -> State
         ensures { result ≡ fresh_by self }
     {
-        voice::fresh(
-            voice::voice_of(self.instrument),
-            utils::engine::a0(self.rate),
-        )
+        voice_of(self.instrument).fresh(utils::engine::a0(self.rate))
     }
 
     // The words of the state before row k: those kept after the row before it, and at row 0 those of the fresh state.
@@ -82,24 +74,20 @@ impl Settings {
         ensures { result ≡ before_row (fresh_by self) kept.now k }
     {
         if k == 0 {
-            return voice::kept_words(self.fresh_start());
+            return self.fresh_start().kept_words();
         }
-        let a = (k - 1) * KEPT_WORDS;
-        let e = a + KEPT_WORDS;
-        let mut before = [0; KEPT_WORDS];
-        before.copy_from_slice(&kept[a..e]);
-        before
+        lists::part(kept, k - 1)
     }
 
     // The state that a row begins with, by the words of the state before it.
     #[tactic(auto, unfolding(crate::specs::Rows::start_of))]
-    pub fn start(self, row: [u32; ROW_WORDS], before: [u32; KEPT_WORDS]) -> voice::State
+    pub fn start(self, row: [u32; ROW_WORDS], before: [u32; KEPT_WORDS]) -> State
         ensures { result ≡ start_of (fresh_by self) row (state_of (voice_of self.instrument) before) }
     {
         if score::rows::restarts(row) {
             return self.fresh_start();
         }
-        voice::state_of(voice::voice_of(self.instrument), &before)
+        voice_of(self.instrument).state_of(&before)
     }
 
     // The kept words of n rows with a place made for row p, where the words of the state before it then stand.
@@ -111,12 +99,12 @@ impl Settings {
     {
         let before = self.words_before(kept, p);
         lists::shift_up(kept, KEPT_WORDS, p, n);
-        let _same = keep(before, p, kept);
+        lists::put_part(kept, p, before);
     }
 }
 
 impl Take<'_> {
-    // The words of the state before row k, by the words that this take keeps.
+    // The words of the state before row k, by the words that this take keeps. `make_room` is lent such words alone, and asks the settings itself.
     pub fn words_before(&self, settings: Settings, k: usize) -> [u32; KEPT_WORDS]
         requires { (k ≤ most_rows) × (k * kept_count ≤ length self.now.kept.now) }
         ensures { result ≡ before_row (fresh_by settings) self.now.kept.now k }
@@ -125,22 +113,21 @@ impl Take<'_> {
     }
 }
 
-// A row's words, kept after row k; whether they are those that stood there.
+// A row's words, kept after row k; whether they are those that stood there. They are compared as arrays, whose length is known, and no loop is left.
+#[tactic(auto, using(score::proofs::Same::same_is))]
 pub fn keep(new: [u32; KEPT_WORDS], k: usize, kept: &mut [u32]) -> bool
     requires k_lt_most_rows { k < most_rows }
     requires kept_count_in_bounds { k * kept_count + kept_count ≤ length kept.old }
     ensures value { result ≡ same (kept_at kept.old k) new }
     ensures kept_after { kept.new ≡ put kept.old (k * kept_count) new }
 {
-    let a = k * KEPT_WORDS;
-    let e = a + KEPT_WORDS;
-    let place = &mut kept[a..e];
-    let same = &*place == new.as_slice();
-    place.copy_from_slice(&new);
-    same
+    let old = lists::part::<KEPT_WORDS>(kept, k);
+    lists::put_part(kept, k, new);
+    old == new
 }
 
-// Whether a run stops before row j of n, told whether the words before it are those that it had where it came from.
+// Whether a run stops before row j of n, told whether the words before it are those that it had where it came from. That so many rows lie among the
+// words is a clause, as in `score::rows`.
 #[tactic(auto, unfolding(crate::specs::Rows::stops_of))]
 pub fn stops(rows: &[u32], n: usize, j: usize, same: bool) -> bool
     requires j_le_n { (j ≤ n) × (n ≤ most_rows) }
@@ -150,7 +137,7 @@ pub fn stops(rows: &[u32], n: usize, j: usize, same: bool) -> bool
     j == n || score::rows::restarts(score::rows::row_at(rows, j)) || same
 }
 
-// Where a stretch that ended before row `end` ends once row j of n is reached: there, or a row further, or nowhere where the run stops.
+// Where a stretch that ended before row `end` ends once row j of n is reached: there, or a row further, or None where the run stops.
 #[tactic(auto, unfolding(crate::specs::Ends::end_of))]
 pub fn next_end(rows: &[u32], n: usize, j: usize, end: usize, same: bool) -> Option<usize>
     requires j_le_n { (j ≤ n) × (n ≤ most_rows) }

@@ -1,6 +1,6 @@
 -- The loop over the rows of a run, by what is left to do: rendering a row and going on is the definition's next step.
 use Rattle.std.proofs.Common.{◌≡◌, refl, sym, ap, ◌∙◌, List, Bool, true, false, cond, ℕ, suc, ◌+◌, ◌-◌, ◌*◌, ◌≤◌, ◌<◌, add-zero, zero-add, add_assoc, eqb, Option, None, Some, arith, le_refl}
-use borrow.Author.Tests.{eqb-false}
+use Rattle.std.proofs.lemmas.Bool.{eqb-false}
 use Rattle.lists.specs.Lists.{same}
 use Rattle.lists.proofs.Places.{part_end}
 use Rattle.utils.specs.Holds.{none, plus, AtMost, most_count}

@@ -9,31 +9,24 @@ ghost use Rattle.runs.specs.Inner.{Blocks, Room, Holding, Makes, RowDone};
 
 use rows::{Patch, Report, Take};
 use score::rows::ROW_WORDS;
-use utils::engine::Workspace;
+use utils::engine::{Block, CORNERS_LENGTH, MOST_FRAMES, RUN_LENGTH, Workspace};
 use utils::holds::Holds;
 use voice::KEPT_WORDS;
 
-// A row as it was made: the words that it keeps, and what it held.
-#[derive(Clone, Copy)]
-struct Made {
-    kept: [u32; KEPT_WORDS],
-    holds: Holds,
-}
-
-// A row made from its words and those of the state before it: its block into `out` and `aux`.
+// A row made from its words and those of the state before it: its block into `out` and `aux`. The state after it comes as the words kept of it.
 // That the bank and the map are lent is a clause, here and above: a second type beside the patch, which a call tests first, is no plainer.
 fn make_row(
     patch: Patch<'_>,
     row: [u32; ROW_WORDS],
     before: [u32; KEPT_WORDS],
-    work: &mut Workspace,
+    work: Workspace<'_>,
     out: &mut [u32],
     aux: &mut [u32],
-) -> Made
+) -> Block<[u32; KEPT_WORDS]>
     requires lent { Lent patch.bank.now patch.map.now }
     requires places { Blocks patch.settings.frames out.old aux.old }
     ensures { Makes patch.entry.settings.frames (row_by (setup_by patch.entry) row before)
-        result.holds out.new aux.new result.kept }
+        result.holds out.new aux.new result.state }
 {
     let block = blocks::render(
         patch.settings.start(row, before),
@@ -44,9 +37,9 @@ fn make_row(
         out,
         aux,
     );
-    let kept = voice::kept_words(block.state);
-    Made {
-        kept,
+    let state = block.state.kept_words();
+    Block {
+        state,
         holds: block.holds,
     }
 }
@@ -63,7 +56,7 @@ fn render_row(
     patch: Patch<'_>,
     rows: &[u32],
     k: usize,
-    work: &mut Workspace,
+    work: Workspace<'_>,
     take: &mut Take<'_>,
 ) -> Step
     requires lent { Lent patch.bank.now patch.map.now }
@@ -84,7 +77,7 @@ fn render_row(
         &mut take.out[a..e],
         &mut take.aux[a..e],
     );
-    let same = rows::keep(made.kept, k, take.kept);
+    let same = rows::keep(made.state, k, take.kept);
     Step {
         holds: made.holds,
         same,
@@ -108,11 +101,24 @@ pub fn run(
     ensures done { reported result (words_of take.new)
         ≡ run_of (setup_by patch.entry) rows.now n n from to (words_of take.old) }
 {
-    let mut work = Workspace::new();
+    let mut keys = [0; MOST_FRAMES];
+    let mut run_1 = [0.0; RUN_LENGTH];
+    let mut run_2 = [0.0; RUN_LENGTH];
+    let mut run_3 = [0.0; RUN_LENGTH];
+    let mut run_4 = [0.0; RUN_LENGTH];
+    let mut corners = [0.0; CORNERS_LENGTH];
     let mut end = to;
     let mut holds = Holds::default();
     for k in from..n {
-        let step = render_row(patch, rows, k, &mut work, take);
+        let work = Workspace {
+            keys: &mut keys,
+            run_1: &mut run_1,
+            run_2: &mut run_2,
+            run_3: &mut run_3,
+            run_4: &mut run_4,
+            corners: &mut corners,
+        };
+        let step = render_row(patch, rows, k, work, take);
         holds = holds + step.holds;
         let next = k + 1;
         match rows::next_end(rows, n, next, end, step.same) {

@@ -1,7 +1,6 @@
 -- What the proofs of this crate share.
 pub mod Order
 pub mod Within
-pub mod RowWords
 pub mod RowsRight
 pub mod FirstBad
 pub mod Same

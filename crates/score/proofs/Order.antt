@@ -1,11 +1,10 @@
 -- Floats from +0 up stand in the order of their words: both go by the exponent's field first and then by the digits below it.
 use Rattle.std.proofs.Common.{◌≡◌, refl, sym, ap, ◌∙◌, subst, ⊎_elim, Bool, true, false, ◌&&◌, ◌||◌, cond, true≢false, ℕ, zero, suc, ◌+◌, ◌*◌, ◌/◌, ◌%◌, ◌^◌, ◌≤◌, ◌<◌, mul-lt-mul_of_pos_right, mul-le-mul_left, mul-le-mul_right, le_of_mul-le-mul_right, pow-suc, mod-eq_of_lt, zero-mul, mul-pos, eq-or-lt_of_le, lt_irrefl, lt_of_lt_of_le, le_trans, le_of_eq, le_of_lt, arith, le-leb, ne_eqb, eq-eqb, lt-ltb, le-ltb, pos, leb, ltb, eqb, pow_pos, pow_mono}
-use mathlib.Core.Bool.{false≢true}
-use borrow.Author.Tests.{lt-leb}
-use lib.Ieee.{Float, nan, inf, fin, binary32, up, down, le, lt, eq, of_bits, of_fields}
-use lib.Ieee.Exact.{HasValue, odd_sign}
-use lib.Ieee.Fits.{down_pos}
-use lib.Ieee.Order.{transfer}
+use Rattle.std.proofs.lemmas.Bool.{false≢true, lt-leb}
+use Rattle.std.specs.Float.Ieee.{Float, nan, inf, fin, binary32, up, down, le, lt, eq, of_bits, of_fields}
+use Rattle.std.specs.Float.Ieee.Exact.{HasValue, odd_sign}
+use Rattle.std.specs.Float.Ieee.Fits.{down_pos}
+use Rattle.std.specs.Float.Ieee.Order.{transfer}
 use Rattle.lists.proofs.Cases.{le_or_lt}
 
 -- two tests are the same where each way of the one is that way of the other

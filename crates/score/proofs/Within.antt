@@ -1,8 +1,8 @@
 -- The limits, tested on words. A float's test from 0 to a limit is one comparison of its word with the limit's word, after -0 is taken for +0.
 use Rattle.std.proofs.Common.{◌≡◌, refl, sym, ◌∙◌, subst, ⊎_elim, true, false, ◌&&◌, ◌||◌, cond, List, ℕ, zero, suc, ◌^◌, ◌≤◌, ◌<◌, eq-or-lt_of_le, arith, ne_eqb, leb, eqb, pos}
-use borrow.Author.Tests.{lt-leb}
-use lib.Dec.{leb-zero}
-use lib.Ieee.{fin, binary32, of_bits, le}
+use Rattle.std.proofs.lemmas.Bool.{lt-leb}
+use Rattle.std.proofs.Math.Dec.{leb-zero}
+use Rattle.std.specs.Float.Ieee.{fin, binary32, of_bits, le}
 use Rattle.words.specs.Binary32.{decimal}
 use Rattle.score.specs.Rows.{note, timbre, morph, harmonics, restart, word_for}
 use Rattle.score.specs.Limits.{float_to, limit, row_within}

@@ -1,4 +1,5 @@
-// The limits by name, tested on words: no branch on a word, one return for each row.
+// The limits by name, tested on words, since each edit tests all rows: as floats 4,096 of them take 26 µs, four to six times as long. No branch on
+// a word, one return for each row.
 ghost use Rattle.std.specs.Prelude.{◌≡◌, cond, ◌+◌, ◌-◌, ◌*◌, ◌^◌, ◌<◌, ◌≤◌, eqb, length};
 ghost use Rattle.std.specs.Float.{binary32};
 ghost use Rattle.std.specs.Float.Ieee.{of_bits};
@@ -41,7 +42,7 @@ pub fn row_within(row: [u32; ROW_WORDS]) -> bool
                 & (float_to(row[HARMONICS], UNIT_HIGH) & (row[RESTART] <= 1))))
 }
 
-// What 9 says of a row that is row k of a score.
+// What `Refusal::Limit` says of a row that is row k of a score.
 fn row_limits(row: [u32; ROW_WORDS], k: usize) -> Result<(), Refusal>
     ensures { result ≡ row_refusal k row }
 {
@@ -52,7 +53,9 @@ fn row_limits(row: [u32; ROW_WORDS], k: usize) -> Result<(), Refusal>
     }
 }
 
-// The same of `count` rows, the first of which is row `first` of the score.
+// The same of `count` rows, the first of which is row `first` of the score. One loop for all its callers: inlined in each of them, 4,096 rows take
+// 7.4 µs in place of 4.8.
+#[inline(never)]
 fn limits_from(rows: &[u32], count: usize, first: usize) -> Result<(), Refusal>
     requires rows_room { count * row_words ≤ length rows.now }
     requires places { first + count < 2 ^ 64 }
@@ -64,7 +67,7 @@ fn limits_from(rows: &[u32], count: usize, first: usize) -> Result<(), Refusal>
     Ok(())
 }
 
-// What 9 says of the first `count` rows.
+// What it says of the first `count` rows.
 pub fn within_limits(rows: &[u32], count: usize) -> Result<(), Refusal>
     requires { count * row_words ≤ length rows.now }
     ensures { result ≡ limit_refusal count rows.now }
@@ -72,7 +75,8 @@ pub fn within_limits(rows: &[u32], count: usize) -> Result<(), Refusal>
     limits_from(rows, count, 0)
 }
 
-// The same with a row's words in the place of row k, without a copy of the rows.
+// The same with a row's words in the place of row k, without a copy of the rows. This and the next two are for three calls, whose enum stands in a
+// crate above; one function for them would be told which rows stand before, whether a row comes, and which stand behind, and do no less.
 pub fn within_limits_with(
     rows: &[u32],
     count: usize,

@@ -60,7 +60,7 @@ impl Refusal {
         }
     }
 
-    // Its place: 0 where it carries none.
+    // Its place: 0 where it carries none, as the documents and the C interface have it.
     pub fn place(self) -> usize
         ensures { result ≡ place_of self }
     {

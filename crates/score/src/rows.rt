@@ -1,9 +1,10 @@
-// A score's rows: words one row after the other.
+// A score's rows: words one row after the other, as the C interface lends them, and a count of rows beside them. That the count's rows, row k or a
+// new row lie among the words is a clause in each function: a struct of words and count would want two forms, to read and to write.
 ghost use Rattle.std.specs.Prelude.{◌≡◌, ◌+◌, ◌*◌, ◌≤◌, ◌<◌, length};
 ghost use Rattle.lists.specs.Lists.{same};
 ghost use Rattle.score.specs.Rows.{row_words, most_rows, wrong_rows, row_at, put_row, insert_row, remove_row, restarts};
 
-use lists::{shift_down, shift_up};
+use lists::{part, put_part, shift_down, shift_up};
 
 // A row's words.
 pub const ROW_WORDS: usize = 5;
@@ -22,12 +23,13 @@ pub const HARMONICS: usize = 3;
 
 pub const RESTART: usize = 4;
 
-// Whether a count is not from `least` to `largest`, or so many row words are too few for it.
+// Whether a count is not from `least` to `largest`, or so many row words are too few for it. `largest` is bounded, so that the words of as many
+// rows are a number.
 pub fn wrong_rows(least: usize, largest: usize, count: usize, rows: usize) -> bool
     requires { largest ≤ most_rows }
     ensures { result ≡ wrong_rows least largest count rows }
 {
-    count < least || count > largest || rows < count * ROW_WORDS
+    !(least..=largest).contains(&count) || rows < count * ROW_WORDS
 }
 
 // The words of row k.
@@ -35,8 +37,7 @@ pub fn row_at(rows: &[u32], k: usize) -> [u32; ROW_WORDS]
     requires { k * row_words + row_words ≤ length rows.now }
     ensures { result ≡ row_at rows.now k }
 {
-    let a = k * ROW_WORDS;
-    [rows[a], rows[a + 1], rows[a + 2], rows[a + 3], rows[a + 4]]
+    part(rows, k)
 }
 
 // A row's words in the place of row k's.
@@ -44,9 +45,7 @@ pub fn put_row(rows: &mut [u32], k: usize, row: [u32; ROW_WORDS])
     requires { k * row_words + row_words ≤ length rows.old }
     ensures { rows.new ≡ put_row rows.old k row }
 {
-    let a = k * ROW_WORDS;
-    let e = a + ROW_WORDS;
-    rows[a..e].copy_from_slice(&row);
+    put_part(rows, k, row);
 }
 
 // A row's words put between n rows, in place p: the rows from there on move up.
@@ -67,6 +66,7 @@ pub fn remove_row(rows: &mut [u32], n: usize, p: usize)
 }
 
 // Whether row k has these words.
+#[tactic(auto, using(crate::proofs::Same::same_is))]
 pub fn same_row(rows: &[u32], k: usize, row: [u32; ROW_WORDS]) -> bool
     requires { k * row_words + row_words ≤ length rows.now }
     ensures { result ≡ same (row_at rows.now k) row }

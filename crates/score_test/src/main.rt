@@ -8,7 +8,7 @@ ghost use Rattle.std.specs.Prelude.{◌≤◌};
 
 use arrayvec::ArrayVec;
 use score::refusal::Refusal;
-use trial::{after, read_input, say, text_end};
+use std::io;
 
 // What stands in lent words before a call.
 const FILL: u32 = 0xaaaaaaaa;
@@ -21,87 +21,82 @@ const VALUES: [u8; 45] = *b"42700000 3f000000 3f000000 3f000000 00000000\n";
 const LONG_TEXT: usize = 36 + 45 * 4098;
 
 // The answer's line; after a success each lent word, after a refusal whether they all are as they were.
-fn show(rt: &impl Print, answer: Result<usize, Refusal>, words: &[u32]) {
+fn show(rt: &impl Print, answer: Result<usize, Refusal>, words: &[u32]) -> io::Result<()> {
     match answer {
         Ok(count) => {
-            let _ = print!(rt; "read {count}");
+            print!(rt; "read {count}")?;
             for word in words {
-                let _ = print!(rt; " {word:08x}");
+                print!(rt; " {word:08x}")?;
             }
         }
         Err(refusal) => {
-            let _ = print!(rt; "refused {refusal}");
             let kept = words.iter().all(|&word| word == FILL);
-            say(rt, if kept { b" kept" } else { b" changed" });
+            let how = if kept { "kept" } else { "changed" };
+            print!(rt; "refused {refusal} {how}")?;
         }
     }
-    say(rt, b"\n");
+    println!(rt)
 }
 
 // The answer's line, and then the lent bytes.
-fn show_text(rt: &impl Print, answer: Result<usize, Refusal>, text: &[u8]) {
+fn show_text(rt: &impl Print, answer: Result<usize, Refusal>, text: &[u8]) -> io::Result<()> {
     match answer {
-        Ok(bytes) => {
-            let _ = print!(rt; "written {bytes}");
-        }
-        Err(refusal) => {
-            let _ = print!(rt; "refused {refusal}");
-        }
+        Ok(bytes) => println!(rt; "written {bytes}")?,
+        Err(refusal) => println!(rt; "refused {refusal}")?,
     }
-    say(rt, b"\n");
-    say(rt, text);
-    say(rt, b"\n");
+    rt.write_all(text)?;
+    println!(rt)
 }
 
 // Reads a score into so many words, and shows them.
-fn read<const WORDS: usize>(rt: &impl Print, text: &[u8])
+fn read<const WORDS: usize>(rt: &impl Print, text: &[u8]) -> io::Result<()>
     requires { WORDS ≤ 20 }
 {
     let mut rows = [FILL; WORDS];
     let answer = reader::read(text, &mut rows);
-    show(rt, answer, &rows);
+    show(rt, answer, &rows)
 }
 
 // Reads edits, and shows them.
-fn read_edits(rt: &impl Print, text: &[u8]) {
+fn read_edits(rt: &impl Print, text: &[u8]) -> io::Result<()> {
     let mut edits = [FILL; 18];
     let answer = reader::read_edits(text, &mut edits);
-    show(rt, answer, &edits);
+    show(rt, answer, &edits)
 }
 
 // Reads a score, writes it, and shows the lent text.
-fn tidy(rt: &impl Print, text: &[u8]) {
+fn tidy(rt: &impl Print, text: &[u8]) -> io::Result<()> {
     let mut rows = [FILL; 20];
     match reader::read(text, &mut rows) {
         Ok(count) => {
             let mut tidied = [b'.'; 130];
             let wrote = writer::write(&rows, count, &mut tidied);
-            show_text(rt, wrote, &tidied);
+            show_text(rt, wrote, &tidied)
         }
         refused => show(rt, refused, &rows),
     }
 }
 
-fn run(rt: &impl Print, text: &[u8], how: u8) {
+// Reads a text as the byte behind it says; a byte that ends no text says nothing.
+fn run(rt: &impl Print, text: &[u8], how: u8) -> io::Result<()> {
     match how {
         b'~' => read::<20>(rt, text),
         b'<' => read::<14>(rt, text),
         b'>' => tidy(rt, text),
-        _ => read_edits(rt, text),
+        b'@' => read_edits(rt, text),
+        _ => Ok(()),
     }
 }
 
-// Each text in its turn. A while: it goes on from text to text, and an iterator of our own would be no plainer.
-fn run_all(rt: &impl Print, input: &[u8]) {
-    let mut from = 0;
-    while from < input.len() {
-        let end = text_end(input, from, b"~<>@");
-        if end == input.len() {
-            return;
+// Each text in its turn.
+fn run_all(rt: &impl Print, input: &[u8]) -> io::Result<()> {
+    for text in input.split_inclusive(|b| b"~<>@".contains(b)) {
+        let text = text.strip_prefix(b"\n").unwrap_or(text);
+        if let Some((how, text)) = text.split_last() {
+            run(rt, text, *how)?;
         }
-        run(rt, &input[from..end], input[end]);
-        from = after(input, end);
     }
+    Ok(())
 }
 
 // A score of `lines` equal lines and then `tail`, as far as there is room.
@@ -116,7 +111,7 @@ fn long_text(lines: usize, tail: &[u8]) -> ArrayVec<u8, LONG_TEXT> {
 }
 
 // Reads such a score into so many words, and shows the last six of them; all after a refusal.
-fn long<const WORDS: usize>(rt: &impl Print, lines: usize, tail: &[u8])
+fn long<const WORDS: usize>(rt: &impl Print, lines: usize, tail: &[u8]) -> io::Result<()>
     requires { WORDS ≤ 20481 }
 {
     let text = long_text(lines, tail);
@@ -128,33 +123,33 @@ fn long<const WORDS: usize>(rt: &impl Print, lines: usize, tail: &[u8])
     } else {
         0
     };
-    show(rt, answer, &words[from..]);
+    show(rt, answer, &words[from..])
 }
 
 // Writes the most rows that a score can have into so many bytes, and shows the last 50 of them.
-fn write_long<const BYTES: usize>(rt: &impl Print)
+fn write_long<const BYTES: usize>(rt: &impl Print) -> io::Result<()>
     requires { BYTES ≤ 184360 }
 {
     let rows = [0u32; 20480];
     let mut text = [b'.'; BYTES];
     let text = &mut text[..];
     let answer = writer::write(&rows, 4096, text);
-    show_text(rt, answer, &text[BYTES.saturating_sub(50)..]);
+    show_text(rt, answer, &text[BYTES.saturating_sub(50)..])
 }
 
-fn main(rt: HostRuntime) {
-    let mut input = [0u8; 32768];
-    let size = read_input(&rt, &mut input);
-    run_all(&rt, &input[..size]);
+fn main(rt: HostRuntime) -> io::Result<()> {
+    let mut input = ArrayVec::<u8, 32768>::new();
+    io::copy(&mut rt.reader(), &mut input)?;
+    run_all(&rt, &input)?;
     // Into words for all rows that a score can have, and one more; and into one word less than those rows need.
-    long::<20481>(&rt, 4097, b"");
-    long::<20481>(&rt, 4097, b"42700000 3f000000 3f000000 3f000000 0000000g\n");
-    long::<20481>(&rt, 4097, b"42700000 3f000000 3f000000 3f000000 00000002\n");
-    long::<20481>(&rt, 4095, b"42700000 3f000000 3f000000 3f000000 00000002\n");
-    long::<20479>(&rt, 4096, b"");
-    long::<20481>(&rt, 4096, b"");
+    long::<20481>(&rt, 4097, b"")?;
+    long::<20481>(&rt, 4097, b"42700000 3f000000 3f000000 3f000000 0000000g\n")?;
+    long::<20481>(&rt, 4097, b"42700000 3f000000 3f000000 3f000000 00000002\n")?;
+    long::<20481>(&rt, 4095, b"42700000 3f000000 3f000000 3f000000 00000002\n")?;
+    long::<20479>(&rt, 4096, b"")?;
+    long::<20481>(&rt, 4096, b"")?;
     // Into one byte less than their text needs, as many, and four more.
-    write_long::<184355>(&rt);
-    write_long::<184356>(&rt);
-    write_long::<184360>(&rt);
+    write_long::<184355>(&rt)?;
+    write_long::<184356>(&rt)?;
+    write_long::<184360>(&rt)
 }

@@ -6,8 +6,8 @@ use Rattle.std.proofs.Math.Bool.{false≢true}
 use Rattle.std.proofs.Math.Nat.{mod-le, mod-one, mul-add-div_right, mul-add-mod_self_right, min-eq_left}
 use Rattle.std.proofs.Math.Pow.{pow-lt}
 use Rattle.std.specs.Float.Ieee.{nan, inf, fin, binary32, up, down, lt, fits, round, of_int}
-use lib.Ieee.Fits.{and_l, and_r}
-use lib.Ieee.Exact.{HasValue, round_exact}
+use Rattle.std.specs.Float.Ieee.Fits.{and_l, and_r}
+use Rattle.std.specs.Float.Ieee.Exact.{HasValue, round_exact}
 use Rattle.words.specs.Binary32.{◌⊖◌, ◌⊗◌, decimal, of_count}
 use Rattle.words.specs.Parts.{part_of, whole_part, whole_i32_float}
 use Rattle.words.proofs.Values.{mul_at, fraction_at, not_below_at}

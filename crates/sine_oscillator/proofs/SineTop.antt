@@ -1,14 +1,14 @@
 -- The sine's table is never read past its end: for every phase the whole part is at most 512, and the last entry that has a next one is 639.
 -- What a clamp to 0 and 1 gives is NaN, a zero or at most 1, and a product with 512 is then at most 512, since rounding keeps order.
-use Rattle.std.specs.Prelude.{◌≡◌, ℕ, zero, suc, ◌-◌, ◌*◌, ◌/◌, ◌%◌, ◌^◌, ◌<◌, ◌≤◌, Bool, true, false, cond, ◌&&◌, ◌||◌, T, eqb, ltb, pos}
+use Rattle.std.specs.Prelude.{◌≡◌, ℕ, zero, suc, ◌-◌, ◌*◌, ◌/◌, ◌^◌, ◌<◌, ◌≤◌, Bool, true, false, cond, ◌&&◌, ◌||◌, T, eqb, ltb, pos}
 use Rattle.std.proofs.Common.{refl, sym, ap, ◌∙◌, true≢false, zero-le, le_trans, le_of_lt, le_of_eq, le_of_mul-le-mul_right, mul_comm, mul-one, mul_right_comm, arith, ltb-false, le-ltb, ltb→lt, eqb→eq, lit<, lit≤, Float}
-use Prim.Native.Nat.{compare}
 use Rattle.std.proofs.Math.Nat.{min-le_left, div-le_of_le-mul}
-use Rattle.std.specs.Float.Ieee.{nan, inf, fin, binary32, up, down, lt, le, eq, size, nearest, odd, units, mul, round, to_unsigned}
-use lib.Ieee.Exact.{HasValue}
-use lib.Ieee.Order.{round_mono}
-use lib.Ieee.Back.{round_whole}
-use lib.Ieee.Fits.{down_pos}
+use Rattle.std.specs.Float.Ieee.{nan, inf, fin, binary32, up, down, lt, le, eq, size, odd, units, mul, round, to_unsigned}
+use Rattle.std.specs.Float.Ieee.Nearest.{closest}
+use Rattle.std.specs.Float.Ieee.Exact.{HasValue}
+use Rattle.std.specs.Float.Ieee.Order.{round_mono}
+use Rattle.std.specs.Float.Ieee.Back.{round_whole}
+use Rattle.std.specs.Float.Ieee.Fits.{down_pos}
 use Rattle.words.specs.Binary32.{◌⊖◌, ◌⊗◌, decimal}
 use Rattle.words.specs.Parts.{whole_part, whole_i32_float, part_of}
 use Rattle.utils.specs.Utils.{clamp_of}
@@ -60,7 +60,7 @@ minus_whole a c =
     let n = a * 2 ^ 149 in
     let k = size (n / c) - 24 in
     let u = c * 2 ^ k in
-    minus_units (nearest (n / u) (compare (n % u * 2) u)) k
+    minus_units (closest n u) k
 
 times_most : (y : Float) → lt y (fin false 0 (pos 0)) ≡ false → lt (fin false 1 (pos 0)) y ≡ false → to_unsigned 64 (mul binary32 y (fin false 1 (pos 9))) ≤ 512
 unfolding lt mul to_unsigned

@@ -25,6 +25,7 @@ pub struct FastSineOscillator {
 }
 
 impl FastSineOscillator {
+    // The fresh state, each field by its name as the equation has it.
     #[tactic(auto, unfolding(words::specs::Binary32::of_bits, words::specs::Binary32::decimal))]
     pub fn init() -> FastSineOscillator
         ensures { result ≡ path_fresh }
@@ -37,8 +38,8 @@ impl FastSineOscillator {
         }
     }
 
-    // Sine and cosine, n samples of each, into the front of two lent runs: memory is fixed, so these are lent whole. The oscillator that comes back goes on
-    // from there.
+    // Sine and cosine, n samples of each, into the front of two lent runs: as slices they would be asked to be as long as each other. The oscillator
+    // that comes back goes on from there.
     #[tactic(auto, unfolding(crate::specs::Path::path_after))]
     pub fn render_quadrature(
         self,
@@ -121,6 +122,7 @@ impl Quadrature {
     }
 }
 
+// The frequency, held at a quarter. Not `f32::min`, which answers a quarter for a NaN too.
 #[tactic(auto, unfolding(words::specs::Binary32::of_bits, words::specs::Binary32::decimal))]
 fn limited_frequency(frequency: f32) -> f32
     ensures { result ≡ limited_frequency frequency }
@@ -128,6 +130,7 @@ fn limited_frequency(frequency: f32) -> f32
     if frequency >= 0.25 { 0.25 } else { frequency }
 }
 
+// The amplitude, which fades towards that.
 #[tactic(auto, unfolding(words::specs::Binary32::of_bits, words::specs::Binary32::decimal))]
 fn limited_amplitude(frequency: f32, amplitude: f32) -> f32
     ensures { result ≡ limited_amplitude frequency amplitude }

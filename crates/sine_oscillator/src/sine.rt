@@ -9,16 +9,18 @@ ghost use Rattle.sine_oscillator.specs.Sine.{lut_sine, sine_of};
 // Number of entries of a period.
 pub const LUT_SINE_SIZE: f32 = 512.0;
 
-// The table, to be lent.
+// The table, lent down from `blocks`: an equation below it holds for any table.
 pub fn sine_table() -> &'static [f32; 641]
     ensures { result.now ≡ lut_sine }
 {
     &LUT_SINE
 }
 
-// The sine of a phase from 0 to below 8192: one whole part, of 512 times the phase.
+// The sine of a phase above 0 and below 8192: one whole part, of 512 times the phase. By `interpolate_wrap` in its place, which takes two, the
+// terrain voice renders 60 to 70 percent longer.
 fn near_sine(table: &[f32; 641], phase: f32) -> f32
-    requires { (lt (from_bits binary32 0) phase ≡ true) × (lt phase (decimal 8192 0) ≡ true) }
+    requires above_zero { lt (from_bits binary32 0) phase ≡ true }
+    requires below_8192 { lt phase (decimal 8192 0) ≡ true }
     ensures { result ≡ sine_of table.now phase }
 {
     let part = words::held_part(phase * 512.0, 8388606);
@@ -29,15 +31,7 @@ fn near_sine(table: &[f32; 641], phase: f32) -> f32
     a + (b - a) * part.fraction
 }
 
-// The sine of any phase.
-#[tactic(auto, unfolding(words::specs::Binary32::of_bits, words::specs::Binary32::decimal))]
-fn far_sine(table: &[f32; 641], phase: f32) -> f32
-    ensures { result ≡ sine_of table.now phase }
-{
-    utils::interpolate_wrap(table, phase, LUT_SINE_SIZE)
-}
-
-// The sine of a phase in periods, by the table LUT_SINE, lent. Safe for every phase, will wrap from 0 on.
+// The sine of a phase in periods, by the table LUT_SINE, lent. For every phase; from 0 on it wraps.
 #[tactic(auto, unfolding(words::specs::Binary32::of_bits, words::specs::Binary32::decimal))]
 pub fn sine(table: &[f32; 641], phase: f32) -> f32
     ensures { result ≡ sine_of table.now phase }
@@ -45,7 +39,7 @@ pub fn sine(table: &[f32; 641], phase: f32) -> f32
     if phase > 0.0 && phase < 8192.0 {
         near_sine(table, phase)
     } else {
-        far_sine(table, phase)
+        utils::interpolate_wrap(table, phase, LUT_SINE_SIZE)
     }
 }
 

@@ -1,10 +1,12 @@
 // Whole rendering of a score, and edits, insertions and removals of its rows, over lent words: the calls, with their refusals. The lent words
-// may be longer than the score; `count` says how many rows it has. They stand side by side, as the C interface lends them.
+// may be longer than the score; `count` says how many rows it has. They stand side by side, as the C interface lends them: a rendering is lent rows
+// to read, the other calls rows to write, so a struct of rows, count and take would be two.
 #![tactic(auto)]
 
 ghost use Rattle.std.specs.Prelude.{◌≡◌, ◌+◌, ◌*◌, ◌≤◌, ◌<◌, length};
 ghost use Rattle.lists.specs.Lists.{same};
 ghost use Rattle.score.specs.Rows.{most_rows};
+ghost use Rattle.score.specs.Numbers.{accepted};
 ghost use Rattle.voice.specs.Voice.{Lent, kept_count};
 ghost use Rattle.runs.specs.Inner.{SameLengths};
 ghost use Rattle.rows.specs.Rows.{setup_by, words_of, SamePlaces, fresh_by, before_row, room_at, closed_at, reported};
@@ -18,7 +20,7 @@ use score::refusal::Refusal;
 use score::rows::ROW_WORDS;
 use voice::KEPT_WORDS;
 
-// What a call refuses. A take that is lent to be written is read through `&` here: its parts cannot be handed on side by side through `&mut`.
+// What a call refuses. A take that is lent to be written is read through `&` here, since `refusals::check` asks for its parts lent shared.
 fn check(
     patch: Patch<'_>,
     rows: &[u32],
@@ -31,7 +33,7 @@ fn check(
     refusals::check(patch, rows, count, take.out, take.aux, take.kept, call)
 }
 
-// Whole rendering of a score.
+// Whole rendering of a score. As each function that is lent a take does, it ensures `SamePlaces`: through `&mut Take` parts could be exchanged.
 pub fn render(
     patch: Patch<'_>,
     rows: &[u32],
@@ -47,6 +49,7 @@ pub fn render(
 }
 
 // Row `position` gets other words, and what depends on it is rendered again; nothing where the words are equal.
+// `Lent` and what its kind of call may count on are what an accepted call has: a type for a tested call would be made here just to be taken apart.
 fn retake(
     patch: Patch<'_>,
     rows: &mut [u32],
@@ -68,24 +71,7 @@ fn retake(
     runs::run(patch, rows, count, position, position + 1, take)
 }
 
-// An edit: a row's words in the place of row `position`, and what depends on it rendered again.
-pub fn edit(
-    patch: Patch<'_>,
-    rows: &mut [u32],
-    count: usize,
-    position: usize,
-    row: [u32; ROW_WORDS],
-    take: &mut Take<'_>,
-) -> Result<Report, Refusal>
-    ensures same_places { SamePlaces take.old take.new }
-    ensures call { outcome result rows.new (words_of take.new)
-        ≡ call_of (setup_by patch.entry) count rows.old (words_of take.old) (Call.Edit position row) }
-{
-    check(patch, rows, count, take, Call::Edit(position, row))?;
-    Ok(retake(patch, rows, count, position, row, take))
-}
-
-// A place made for row p in a take of n rows.
+// A place made for row p in a take of n rows. A row is put in at `p ≤ n` and taken out at `p < n`: a type for a place would say no more than that.
 fn make_room(settings: Settings, n: usize, p: usize, take: &mut Take<'_>)
     requires p_le_n { (p ≤ n) × (n < most_rows) }
     requires out_room { (n + 1) * settings.frames ≤ length take.old.out.now }
@@ -118,23 +104,6 @@ fn put_in(
     score::rows::insert_row(rows, count, position, row);
     make_room(patch.settings, count, position, take);
     runs::run(patch, rows, count + 1, position, position + 1, take)
-}
-
-// An insertion: a row put in as row `position`, the later ones moved up, and what depends on it rendered.
-pub fn insert(
-    patch: Patch<'_>,
-    rows: &mut [u32],
-    count: usize,
-    position: usize,
-    row: [u32; ROW_WORDS],
-    take: &mut Take<'_>,
-) -> Result<Report, Refusal>
-    ensures same_places { SamePlaces take.old take.new }
-    ensures call { outcome result rows.new (words_of take.new)
-        ≡ call_of (setup_by patch.entry) count rows.old (words_of take.old) (Call.Insert position row) }
-{
-    check(patch, rows, count, take, Call::Insert(position, row))?;
-    Ok(put_in(patch, rows, count, position, row, take))
 }
 
 // Row p of a take of n rows taken out.
@@ -186,6 +155,75 @@ fn take_out(
     runs::run(patch, rows, fewer, position, position + 1, take)
 }
 
+// What a call does that is not refused.
+fn carry_out(
+    patch: Patch<'_>,
+    rows: &mut [u32],
+    count: usize,
+    call: Call,
+    take: &mut Take<'_>,
+) -> Report
+    requires { refusal_of (setup_by patch) count rows.old (words_of take.old) call ≡ accepted }
+    ensures same_places { SamePlaces take.old take.new }
+    ensures done { ran rows.new (reported result (words_of take.new))
+        ≡ done_of (setup_by patch.entry) count rows.old (words_of take.old) call }
+{
+    match call {
+        Call::Render => runs::run(patch, rows, count, 0, count, take),
+        Call::Edit(position, row) => retake(patch, rows, count, position, row, take),
+        Call::Insert(position, row) => put_in(patch, rows, count, position, row, take),
+        Call::Remove(position) => take_out(patch, rows, count, position, take),
+    }
+}
+
+// A call of any kind. `edit`, `insert` and `remove` are its cases; `render` is too, but reads rows that are lent shared.
+pub fn perform(
+    patch: Patch<'_>,
+    rows: &mut [u32],
+    count: usize,
+    call: Call,
+    take: &mut Take<'_>,
+) -> Result<Report, Refusal>
+    ensures same_places { SamePlaces take.old take.new }
+    ensures call { outcome result rows.new (words_of take.new)
+        ≡ call_of (setup_by patch.entry) count rows.old (words_of take.old) call }
+{
+    check(patch, rows, count, take, call)?;
+    Ok(carry_out(patch, rows, count, call, take))
+}
+
+// An edit: a row's words in the place of row `position`, and what depends on it rendered again.
+pub fn edit(
+    patch: Patch<'_>,
+    rows: &mut [u32],
+    count: usize,
+    position: usize,
+    row: [u32; ROW_WORDS],
+    take: &mut Take<'_>,
+) -> Result<Report, Refusal>
+    ensures same_places { SamePlaces take.old take.new }
+    ensures call { outcome result rows.new (words_of take.new)
+        ≡ call_of (setup_by patch.entry) count rows.old (words_of take.old) (Call.Edit position row) }
+{
+    perform(patch, rows, count, Call::Edit(position, row), take)
+}
+
+// An insertion: a row put in as row `position`, the later ones moved up, and what depends on it rendered.
+pub fn insert(
+    patch: Patch<'_>,
+    rows: &mut [u32],
+    count: usize,
+    position: usize,
+    row: [u32; ROW_WORDS],
+    take: &mut Take<'_>,
+) -> Result<Report, Refusal>
+    ensures same_places { SamePlaces take.old take.new }
+    ensures call { outcome result rows.new (words_of take.new)
+        ≡ call_of (setup_by patch.entry) count rows.old (words_of take.old) (Call.Insert position row) }
+{
+    perform(patch, rows, count, Call::Insert(position, row), take)
+}
+
 // A removal: row `position` taken out, the later ones moved down, and what depends on that rendered again.
 pub fn remove(
     patch: Patch<'_>,
@@ -198,6 +236,5 @@ pub fn remove(
     ensures call { outcome result rows.new (words_of take.new)
         ≡ call_of (setup_by patch.entry) count rows.old (words_of take.old) (Call.Remove position) }
 {
-    check(patch, rows, count, take, Call::Remove(position))?;
-    Ok(take_out(patch, rows, count, position, take))
+    perform(patch, rows, count, Call::Remove(position), take)
 }

@@ -2,4 +2,3 @@
 pub mod Bench
 pub mod Layers
 pub mod Places
-pub mod Tallies

@@ -1,4 +1,4 @@
 pub mod Heights
+pub mod Held
 pub mod Layers
 pub mod Reach
-pub mod Tally

@@ -2,19 +2,19 @@
 // Based on MIT-licensed code (c) 2021 by Emilie Gillet (emilie.o.gillet@gmail.com)
 #![tactic(auto)]
 
-ghost use Rattle.std.specs.Prelude.{◌≡◌, ◌+◌, ◌≤◌, min, length};
+ghost use Rattle.std.specs.Prelude.{◌≡◌, ◌+◌, ◌≤◌, min, length, Some};
 ghost use Rattle.words.specs.Binary32.{◌⊖◌};
 ghost use Rattle.words.specs.Parts.{whole_part, whole_float};
-ghost use Rattle.oscillator.specs.Bank.{bank_length};
+ghost use Rattle.utils.specs.Holds.{of_reading};
 ghost use Rattle.terrain.specs.Layers.{Lent, Lent-prop, num_terrains, layer_top};
 ghost use Rattle.terrain.specs.Reach.{reach};
-ghost use Rattle.terrain.specs.Tally.{place_by, counted, holds_by};
-ghost use Rattle.terrain.specs.Heights.{map_length, squash_of, terrain0, terrain1, terrain2, terrain3, terrain4, terrain_lookup, terrain_lookup_wt, unheld, terrain_of};
+ghost use Rattle.terrain.specs.Held.{start_of, reading_of};
+ghost use Rattle.terrain.specs.Heights.{map_length, held_place, squash_of, terrain0, terrain1, terrain2, terrain3, terrain4, terrain_lookup, terrain_lookup_wt, unheld, terrain_of};
 
 use oscillator::bank::{TABLE_SIZE_F, WAVE_LENGTH};
 use oscillator::wavetable_oscillator::{interpolate_integrated_wave, interpolate_wave};
 use sine_oscillator::sine::sine;
-use utils::holds::Holds;
+use utils::holds::Surface;
 
 // What heights are read off, lent: the sine's table, a bank, and a map or none.
 // A map that is not there is a slice of length 0, since the C interface lends it so.
@@ -26,34 +26,35 @@ pub struct Ground<'a> {
     ghost lent: { Lent bank.now map.now } by { Lent-prop bank.now map.now },
 }
 
-// A height, and what its reading held.
-// The hold is one number, 0 or MAP_HELD or BANK_HELD, for speed: a loop over readings has one addition for all counts.
+// A height, and on what its reading was held, if it was.
 #[derive(Clone, Copy)]
 pub struct Height {
     pub value: f32,
-    pub held: u32,
+    pub held: Option<Surface>,
 }
 
-// Where a reading starts, and what was held there.
+// Where a reading starts, and on what it was held there.
 #[derive(Clone, Copy)]
 struct Place {
     flat: usize,
-    held: u32,
+    held: Option<Surface>,
 }
 
-// A coordinate of a reading: its whole part, as far as that decides, and its fraction.
+// A coordinate of a reading: its whole part, as far as that decides, and its fraction. No `Part`: it is cut off above every edge, and only its
+// place on the surface says whether it was held.
 #[derive(Clone, Copy)]
 struct Coordinate {
     whole: usize,
     fraction: f32,
 }
 
-// Rows and columns of a map, and half of the columns that a reading can start in.
+// Rows and columns of a map.
 const TERRAIN_SIZE: usize = 64;
 
 // The bytes of a map.
 pub const MAP_LENGTH: usize = TERRAIN_SIZE * TERRAIN_SIZE;
 
+// Half of the columns that a reading can start in.
 const COORD_SCALE: f32 = (TERRAIN_SIZE - 2) as f32 * 0.5;
 
 // Waves of each of the three terrains in the bank.
@@ -71,11 +72,6 @@ pub const MAP_EDGE: usize = 4030;
 
 pub const BANK_EDGE: usize = 25209;
 
-// A held reading of the map and of the bank, as numbers: up to 65,535 of each can be summed.
-const MAP_HELD: u32 = 65536;
-
-const BANK_HELD: u32 = 1;
-
 // Where the whole part of a coordinate is cut off: above every edge.
 const REACH: usize = 65535;
 
@@ -89,7 +85,7 @@ fn squash(x: f32, a: f32) -> f32
 {
     let xa = x * a;
 
-    xa / (1.0 + utils::abs(xa))
+    xa / (1.0 + xa.abs())
 }
 
 // Layers 0 to 4, by formula.
@@ -128,7 +124,7 @@ fn terrain_3(table: &[f32; 641], x: f32, y: f32) -> f32
 {
     let xy = x * y;
     let xys = (x - 0.25) * (y + 0.25);
-    sine(table, K + xy / (2.0 + utils::abs(5.0 * xys)) * 6.366)
+    sine(table, K + xy / (2.0 + (5.0 * xys).abs()) * 6.366)
 }
 
 #[tactic(auto, unfolding(words::specs::Binary32::of_bits, words::specs::Binary32::decimal, crate::specs::Heights::terrain4))]
@@ -137,9 +133,7 @@ fn terrain_4(table: &[f32; 641], x: f32, y: f32) -> f32
 {
     sine(
         table,
-        0.159 / (0.170 + utils::abs(y - 0.25))
-            + 0.477 / (0.350 + utils::abs((x + 0.5) * (y + 1.5)))
-            + K,
+        0.159 / (0.170 + (y - 0.25).abs()) + 0.477 / (0.350 + ((x + 0.5) * (y + 1.5)).abs()) + K,
     )
 }
 
@@ -163,29 +157,29 @@ fn coordinate_at(x: f32) -> Coordinate
     }
 }
 
-// `flat`, held at an edge, where that counts as `hold`.
-fn held_place(hold: u32, edge: usize, flat: usize) -> Place
-    ensures { result ≡ place_by hold edge flat }
+// `flat`, held at the edge of a surface.
+fn held_place(surface: Surface, edge: usize, flat: usize) -> Place
+    ensures { start_of result ≡ held_place (of_reading (Some surface)) edge flat }
 {
     if flat > edge {
         Place {
             flat: edge,
-            held: hold,
+            held: Some(surface),
         }
     } else {
-        Place { flat, held: 0 }
+        Place { flat, held: None }
     }
 }
 
-// The map's height at a point.
+// The map's height at a point. From near to far the line is written out, here and for the bank, as the source has it.
 #[tactic(auto, using(crate::proofs::Places::place_most))]
 fn terrain_lookup(map: &[u8], x: f32, y: f32) -> Height
     requires { length map.now ≡ map_length }
-    ensures { result ≡ counted (terrain_lookup map.now x y) }
+    ensures { reading_of result ≡ terrain_lookup map.now x y }
 {
     let cx = coordinate_at((x + 1.0) * COORD_SCALE);
     let cy = coordinate_at((y + 1.0) * COORD_SCALE);
-    let place = held_place(MAP_HELD, MAP_EDGE, TERRAIN_SIZE * cy.whole + cx.whole);
+    let place = held_place(Surface::Map, MAP_EDGE, TERRAIN_SIZE * cy.whole + cx.whole);
     let near = interpolate_wave(map, place.flat, cx.fraction);
     let far = interpolate_wave(map, place.flat + TERRAIN_SIZE, cx.fraction);
     Height {
@@ -194,42 +188,42 @@ fn terrain_lookup(map: &[u8], x: f32, y: f32) -> Height
     }
 }
 
-// Lookup from the wavetable data re-interpreted as a terrain. :facepalm:
-// `number` picks one of the three terrains in the bank.
-#[tactic(auto, using(crate::proofs::Places::place_most))]
-fn terrain_lookup_wt(bank: &[i16], x: f32, y: f32, number: usize) -> Height
-    requires { (length bank.now ≡ bank_length) × (number ≤ 2) }
-    ensures { result ≡ counted (terrain_lookup_wt bank.now x y number) }
-{
-    let sample = coordinate_at((y + 1.0) * 0.5 * TABLE_SIZE_F);
-    let wt = coordinate_at((x + 1.0) * 0.5 * LAST_WAVE);
-    let place = held_place(
-        BANK_HELD,
-        BANK_EDGE,
-        NUM_WAVES * WAVE_LENGTH * number + WAVE_LENGTH * wt.whole + sample.whole,
-    );
-    let near = interpolate_integrated_wave(bank, place.flat, sample.fraction);
-    let far = interpolate_integrated_wave(bank, place.flat + WAVE_LENGTH, sample.fraction);
-    Height {
-        value: (near + (far - near) * wt.fraction) * (1.0 / 1024.0),
-        held: place.held,
-    }
-}
-
-// A height that no reading gives.
+// A height by formula, on which nothing is held.
 fn unheld(value: f32) -> Height
-    ensures { result ≡ counted (unheld value) }
+    ensures { reading_of result ≡ unheld value }
 {
-    Height { value, held: 0 }
+    Height { value, held: None }
 }
 
 impl Ground<'_> {
+    // Lookup from the wavetable data re-interpreted as a terrain. :facepalm:
+    // `number` picks one of the three terrains in the bank.
+    #[tactic(auto, using(crate::proofs::Places::place_most))]
+    fn terrain_lookup_wt(&self, x: f32, y: f32, number: usize) -> Height
+        requires { number ≤ 2 }
+        ensures { reading_of result ≡ terrain_lookup_wt self.now.bank.now x y number }
+    {
+        let sample = coordinate_at((y + 1.0) * 0.5 * TABLE_SIZE_F);
+        let wt = coordinate_at((x + 1.0) * 0.5 * LAST_WAVE);
+        let place = held_place(
+            Surface::Bank,
+            BANK_EDGE,
+            NUM_WAVES * WAVE_LENGTH * number + WAVE_LENGTH * wt.whole + sample.whole,
+        );
+        let near = interpolate_integrated_wave(self.bank, place.flat, sample.fraction);
+        let far = interpolate_integrated_wave(self.bank, place.flat + WAVE_LENGTH, sample.fraction);
+        Height {
+            value: (near + (far - near) * wt.fraction) * (1.0 / 1024.0),
+            held: place.held,
+        }
+    }
+
     // The height of a layer: 0 to 7, and 8 with a map.
     // The layer is a number, since it is the whole part of a float on its way, and the next one up is read too.
     #[tactic(auto, using(crate::proofs::Layers::map_there, crate::proofs::Layers::map_layer_lem), unfolding(crate::specs::Heights::terrain_of))]
     pub fn terrain(&self, x: f32, y: f32, terrain_index: usize) -> Height
         requires { terrain_index ≤ layer_top self.now.map.now + 1 }
-        ensures { result ≡ counted (terrain_of self.now.sine.now self.now.bank.now self.now.map.now x y terrain_index) }
+        ensures { reading_of result ≡ terrain_of self.now.sine.now self.now.bank.now self.now.map.now x y terrain_index }
     {
         match terrain_index {
             0 => unheld(terrain_0(self.sine, x, y)),
@@ -237,25 +231,10 @@ impl Ground<'_> {
             2 => unheld(terrain_2(self.sine, x, y)),
             3 => unheld(terrain_3(self.sine, x, y)),
             4 => unheld(terrain_4(self.sine, x, y)),
-            5 => terrain_lookup_wt(self.bank, x, y, 2),
-            6 => terrain_lookup_wt(self.bank, x, y, 1),
-            7 => terrain_lookup_wt(self.bank, x, y, 0),
+            // One arm, as in the source: a reading that is called at one place is compiled into the loop over the heights.
+            5..=7 => self.terrain_lookup_wt(x, y, 7 - terrain_index),
             _ => terrain_lookup(self.map, x, y),
         }
-    }
-}
-
-// The holds of readings, by the sum of their numbers.
-pub fn holds_of(held: u32) -> Holds
-    ensures { result ≡ holds_by held }
-{
-    let map = (held / MAP_HELD) as usize;
-    let bank = (held % MAP_HELD) as usize;
-    Holds {
-        held: map + bank,
-        map,
-        bank,
-        ..Holds::default()
     }
 }
 

@@ -1,6 +1,6 @@
 -- Pieces joined by a byte that none of them has are cut apart again, and the pieces of a text, joined, are the text; the same of lines and texts.
 use Rattle.std.proofs.Common.{◌≡◌, refl, ap, ◌∙◌, Bool, true, false, not, ◌&&◌, List, [], ◌∷◌, ◌++◌, map, append_assoc, ℕ, eq-eqb, eqb}
-use mathlib.Core.Bool.{false≢true}
+use Rattle.std.proofs.lemmas.Bool.{false≢true}
 use Rattle.std.specs.List.{onto_first}
 use Rattle.std.proofs.lemmas.List.Splits.{join_with_byte-slice_split}
 use Rattle.text.specs.Text.{lf, space, split, joined, fields_of, Line, ended, unended, contents, lined, lines_of, text_of}

@@ -1,37 +1,33 @@
 -- The digits that are written: how many they are, that they are read as the number again, and that a word without a capital letter is written as it stood.
-use Rattle.std.proofs.Common.{◌≡◌, refl, sym, ap, ◌∙◌, ⊎_elim, Bool, true, false, not, ◌&&◌, ◌||◌, cond, List, [], ◌∷◌, ◌++◌, append-nil, ℕ, zero, suc, ◌+◌, ◌-◌, ◌*◌, ◌/◌, ◌%◌, ◌^◌, ◌≤◌, ◌<◌, pow-suc, add-zero, zero-add, add-suc, suc-add, arith, lt-ltb, le-ltb, le-leb, eqb-true, eqb, length, length-append}
-use mathlib.Core.Bool.{false≢true}
-use borrow.Author.Tests.{lt-leb}
-use lib.Seq.{append_snoc}
+use Rattle.std.proofs.Common.{◌≡◌, refl, sym, ap, ◌∙◌, ⊎_elim, Bool, true, false, not, ◌&&◌, ◌||◌, cond, List, [], ◌∷◌, ◌++◌, append-nil, append_assoc, ℕ, zero, suc, ◌+◌, ◌-◌, ◌*◌, ◌/◌, ◌%◌, ◌^◌, ◌≤◌, ◌<◌, pow-suc, add-one, add-zero, zero-add, add-suc, suc-add, arith, lt-ltb, le-ltb, le-leb, eqb-true, ltb, eqb, length, drop, set, length-append}
+use Rattle.std.proofs.lemmas.Bool.{false≢true, lt-leb}
+use Rattle.std.proofs.Math.Seq.{append_snoc}
+use Rattle.std.proofs.lemmas.List.{drop-set}
+use Rattle.std.specs.Char.{digit_char}
 use Rattle.text.specs.Text.{lf, space, joined, line_of, text_of, between, is_digit, digit_of, each_digit, word_digits, is_word, followed_by, word_of, lower_digit, lower_digits, field_of, no_capital}
 use Rattle.lists.proofs.Cases.{both, le_or_lt, and_true, and_false}
 use Rattle.text.proofs.Digits.{inside, followed, each_digit_of}
 use Rattle.text.proofs.Joining.{lacks}
 
--- ---- four digits, and eight
-pub four_lower : (half : ℕ) → half < 65536
-    → lower_digit (half / 4096) ∷ lower_digit (half / 256 % 16) ∷ lower_digit (half / 16 % 16) ∷ lower_digit (half % 16) ∷ [] ≡ lower_digits 4 half
-unfolding lower_digits
-four_lower half h =
-    let a : half / 4096 ≡ half / 16 / 16 / 16 % 16 = omega arith in
-    let b : half / 256 % 16 ≡ half / 16 / 16 % 16 = omega arith in
-    rw (a, b)
+-- ---- a digit that is put in front of those put before it
+pub char_of_digit : (value : ℕ) → digit_char value ≡ lower_digit value
+unfolding lower_digit
+char_of_digit value = ⊎_elim letter numeral (le_or_lt 10 value)
+  where
+    letter : 10 ≤ value → digit_char value ≡ cond (ltb value 10) (48 + value) (97 + (value - 10))
+    letter l = rw (le-ltb value 10 l) (omega arith)
 
--- the last digit of each half and of the whole, and one digit further on
-four_more : (word : ℕ) → lower_digits 4 (word % 65536) ≡ lower_digits 4 word
-unfolding lower_digits
-four_more word =
-    let a : word % 65536 / 16 / 16 / 16 % 16 ≡ word / 16 / 16 / 16 % 16 = omega arith in
-    let b : word % 65536 / 16 / 16 % 16 ≡ word / 16 / 16 % 16 = omega arith in
-    let c : word % 65536 / 16 % 16 ≡ word / 16 % 16 = omega arith in
-    let d : word % 65536 % 16 ≡ word % 16 = omega arith in
-    rw (a, b, c, d)
+    numeral : value < 10 → digit_char value ≡ cond (ltb value 10) (48 + value) (97 + (value - 10))
+    numeral l = rw (lt-ltb value 10 l)
 
-pub two_halves : (word : ℕ) → lower_digits 4 (word / 65536) ++ lower_digits 4 (word % 65536) ≡ field_of word
-unfolding field_of lower_digits
-two_halves word =
-    let e : word / 65536 ≡ word / 16 / 16 / 16 / 16 = omega arith in
-    ap (λ (z : List ℕ). lower_digits 4 (word / 65536) ++ z) (four_more word) ∙ ap (λ (n : ℕ). lower_digits 4 n ++ lower_digits 4 word) e
+pub put_in_front : (k left : ℕ) (text : List ℕ) → 0 < k → k ≤ length text
+    → lower_digits (k - 1) (left / 16) ++ drop (k - 1) (set text (k - 1) (lower_digit (left % 16))) ≡ lower_digits k left ++ drop k text
+unfolding lower_digits
+put_in_front zero left text h l = absurd (omega arith)
+put_in_front (suc k) left text h l =
+    let e : suc k - 1 ≡ k = omega arith in
+    rw (e, drop-set text k (lower_digit (left % 16)) (omega arith), add-one)
+    (sym (append_assoc (lower_digits k (left / 16)) (lower_digit (left % 16) ∷ []) (drop (suc k) text)))
 
 -- ---- a digit
 module _ (value : ℕ) (h : value < 16) where

@@ -52,8 +52,8 @@ reach_fits cut (x ∷ text) = go (eqb x cut) (reach_fits cut text)
     go false h = rw (on_first_lem x (split cut text)) (suc-le-suc h)
 
 -- where the first cut is found, or the text's length where there is none
-pub reach_found : (cut : ℕ) (text : List ℕ) (found : Option ℕ) (n : ℕ) → found ≡ position (λ b. eqb b cut) text → n ≡ length text → unwrap_or found n ≡ reach cut text
-reach_found cut text found n e l = rw (e, l) (go (ltb (position_or_len (λ b. eqb b cut) text) (length text)) refl)
+pub reach_found : (cut : ℕ) (text : List ℕ) (found : Option ℕ) → found ≡ position (λ b. eqb b cut) text → unwrap_or found (length text) ≡ reach cut text
+reach_found cut text found e = rw e (go (ltb (position_or_len (λ b. eqb b cut) text) (length text)) refl)
   where
     go : (b : Bool) → ltb (position_or_len (λ y. eqb y cut) text) (length text) ≡ b
         → unwrap_or (cond b (Some (position_or_len (λ y. eqb y cut) text)) None) (length text) ≡ reach cut text

@@ -1,20 +1,17 @@
 // The pieces into which a byte cuts a text: lines by LF, fields by spaces.
-ghost use Rattle.std.specs.Prelude.{◌≡◌, [], ◌+◌, ◌≤◌, length, get_or, drop};
+ghost use Rattle.std.specs.Prelude.{◌≡◌, [], ◌+◌, ◌≤◌, ◌<◌, length, get_or, unwrap_or, IfSome};
 ghost use Rattle.text.specs.Text.{split, fields_of, column_of};
 
 pub const LF: u8 = 10;
 
 pub const SPACE: u8 = b' ';
 
-// The end of the piece that starts at `from`: the next `cut`, or the text's end.
-pub fn piece_end(text: &[u8], from: usize, cut: u8) -> usize
-    requires { from ≤ length text.now }
-    ensures value { result ≡ from + length (get_or (split cut (drop from text.now)) 0 []) }
-    ensures lower_bound { (from ≤ result) × (result ≤ length text.now) }
+// Where the first `cut` stands, which ends the first piece: none where that piece is the whole text.
+pub fn piece_end(text: &[u8], cut: u8) -> Option<usize>
+    ensures value { unwrap_or result (length text.now) ≡ length (get_or (split cut text.now) 0 []) }
+    ensures inside { IfSome result (λ end. end < length text.now) }
 {
-    let rest = &text[from..];
-    let length = rest.iter().position(|byte| *byte == cut);
-    from + length.unwrap_or(rest.len())
+    text.iter().position(|byte| *byte == cut)
 }
 
 // The number of fields of a line.

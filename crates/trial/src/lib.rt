@@ -1,38 +1,15 @@
-// What the programs that try out the library share: they print, find the texts of an input, fill banks and maps, and tell one run of words or
-// bytes from another. No part of the product calls it. What is printed has no equation: no contract can say what the system writes.
+// What the programs that try out the library share: they fill banks and maps, lend words to calls, and tell one run of words or bytes from
+// another. No part of the product calls it.
 #![tactic(auto)]
 
-ghost use Rattle.std.specs.Prelude.{◌≡◌, ℕ, ◌≤◌, ◌<◌, length, map};
+ghost use Rattle.std.specs.Prelude.{◌≡◌, ℕ, length, map};
+ghost use Rattle.rows.specs.Rows.{setup_by, lent};
+ghost use Rattle.take.specs.Take.{outcome, call_of};
 ghost use Rattle.trial.specs.Trial.{next_of, numbers, number_after, high_byte, sample_of, mixed_of, sum_of};
 
-use std::io::Read;
-
-// Writes a text. What the system does not take is let go.
-pub fn say(rt: &impl Print, text: &[u8]) {
-    let _ = rt.write_all(text);
-}
-
-// Writes a space and a number in decimal.
-pub fn say_number(rt: &impl Print, n: u64) {
-    let _ = print!(rt; " {n}");
-}
-
-// Reads standard input until the bytes are full, it ends or a read fails; how many bytes came.
-// A while: each turn goes on by as many bytes as came, which no iterator counts more plainly.
-pub fn read_input(rt: &impl Input, bytes: &mut [u8]) -> usize
-    ensures { result ≤ length bytes.new }
-{
-    let mut from = rt.reader();
-    let mut at = 0;
-    while at < bytes.len() {
-        let got = from.read(&mut bytes[at..]).unwrap_or(0);
-        if got == 0 {
-            return at;
-        }
-        at += got;
-    }
-    at
-}
+use refusals::Call;
+use rows::{Patch, Report, Take};
+use score::refusal::Refusal;
 
 // The next number of a series that any language can make: s = 1664525 s + 1013904223 mod 2^32.
 fn next(s: u32) -> u32
@@ -89,7 +66,51 @@ pub fn fill_tables(seed: u32, bank: &mut [i16], map: &mut [u8])
     fill(s, map);
 }
 
-// What a check number takes in as a word.
+// The words that a call is lent, in arrays: of rows, of a run's samples, and of what is kept.
+#[derive(Clone, Copy)]
+pub struct Words<const ROWS: usize, const SAMPLES: usize, const KEPT: usize> {
+    pub rows: [u32; ROWS],
+    pub out: [u32; SAMPLES],
+    pub aux: [u32; SAMPLES],
+    pub kept: [u32; KEPT],
+}
+
+impl<const ROWS: usize, const SAMPLES: usize, const KEPT: usize> Words<ROWS, SAMPLES, KEPT> {
+    // Calls, with a score of `count` rows.
+    pub fn call(&mut self, patch: Patch<'_>, count: usize, call: Call) -> Result<Report, Refusal>
+        ensures { outcome result self.new.rows (lent self.new.out self.new.aux self.new.kept)
+            ≡ call_of (setup_by patch.entry) count self.old.rows (lent self.old.out self.old.aux self.old.kept) call }
+    {
+        perform(
+            patch,
+            &mut self.rows,
+            count,
+            call,
+            &mut self.out,
+            &mut self.aux,
+            &mut self.kept,
+        )
+    }
+}
+
+// A call over lent words that stand side by side.
+fn perform(
+    patch: Patch<'_>,
+    rows: &mut [u32],
+    count: usize,
+    call: Call,
+    out: &mut [u32],
+    aux: &mut [u32],
+    kept: &mut [u32],
+) -> Result<Report, Refusal>
+    ensures { outcome result rows.new (lent out.new aux.new kept.new)
+        ≡ call_of (setup_by patch.entry) count rows.old (lent out.old aux.old kept.old) call }
+{
+    let mut take = Take { out, aux, kept };
+    take::perform(patch, rows, count, call, &mut take)
+}
+
+// What a check number takes in as a word. No `Into<u32>`: its `converts` is a relation, and the sum's equation needs a function of the item.
 pub trait Word: Copy {
     ghost word_of: { Self → ℕ };
 
@@ -125,27 +146,4 @@ pub fn sum_of<T: Word>(items: &[T]) -> u64
     ensures { result ≡ sum_of (map T.word_of items.now) }
 {
     items.iter().fold(0, |h, item| mixed(h, item.word())).into()
-}
-
-// The first byte from `from` on that ends a text, or the input's end.
-// No Option: the input's end is handed on, and there a run ends.
-pub fn text_end(input: &[u8], from: usize, marks: &[u8]) -> usize
-    requires { from ≤ length input.now }
-    ensures { (from ≤ result) × (result ≤ length input.now) }
-{
-    let mark = input[from..].iter().position(|b| marks.contains(b));
-    mark.map_or(input.len(), |i| from + i)
-}
-
-// The start of what comes after the byte at `end`: an LF there belongs to no text.
-pub fn after(input: &[u8], end: usize) -> usize
-    requires { end < length input.now }
-    ensures { (end < result) × (result ≤ length input.now) }
-{
-    let next = end + 1;
-    if input.get(next) == Some(&b'\n') {
-        next + 1
-    } else {
-        next
-    }
 }

@@ -1,17 +1,19 @@
 -- The magnitude of a word's float is the float of the word without its sign's bit, since both are read off the same fields.
-use Rattle.std.proofs.Common.{◌≡◌, refl, ◌∙◌, Bool, true, false, cond, ℕ, zero, suc, ◌+◌, ◌/◌, ◌%◌, mod-lt, mod-eq_of_lt, leb, eqb, lit<}
-use borrow.Author.Tests.{lt-leb}
-use Rattle.std.proofs.Math.Pow.{mod-mod-pow}
+use Rattle.std.proofs.Common.{◌≡◌, refl, ◌∙◌, Bool, true, false, cond, ℕ, zero, suc, ◌+◌, ◌/◌, ◌%◌, mod-lt, mod-eq_of_lt, leb, eqb}
+use Rattle.std.proofs.lemmas.Bool.{lt-leb}
+use Rattle.std.specs.Float.{float_with_sign}
 use Rattle.std.specs.Float.Ieee.{nan, inf, binary32, odd, of_fields, of_bits}
+use Rattle.std.proofs.Math.Dec.{lit<}
+use Rattle.std.proofs.Math.Pow.{mod-mod-pow}
 use Rattle.utils.specs.Utils.{abs_of}
 
 abs_odd : (d : ℕ) (s : Bool) (q k l : ℕ) → abs_of (odd d s q k l) ≡ odd d false q k l
-unfolding abs_of odd
+unfolding float_with_sign odd
 abs_odd d s zero k l = refl
 abs_odd d s (suc q) k l = refl
 
 abs_fields : (s : Bool) (x t : ℕ) → abs_of (of_fields binary32 s x t) ≡ of_fields binary32 false x t
-unfolding abs_of of_fields
+unfolding float_with_sign of_fields
 abs_fields s zero t = abs_odd 24 s t 0 149
 abs_fields s (suc x) t = pick (eqb (suc x) 255) (eqb t 0)
   where

@@ -2,16 +2,16 @@
 -- A clamped note plus 128 is NaN, or a rounded number from 0 to 255; what its whole part leaves is exact and below 1, and so is 256 times that, below 256.
 use Rattle.std.proofs.Common.{◌≡◌, sym, ap, subst, ◌∙◌, ◌⊎◌, inl, inr, Bool, true, false, cond, ◌&&◌, true≢false, List, ℕ, zero, suc, ◌+◌, ◌-◌, ◌*◌, ◌/◌, ◌%◌, ◌^◌, ◌≤◌, ◌<◌, zero-le, zero-lt-suc, le_trans, le_of_eq, lt_of_lt_of_le, lt_of_le_of_lt, lt_of_not-le, not-le_of_lt, le_of_suc-le-suc, mul_assoc, mul_comm, mul-one, zero-mul, mod-lt, div-lt_iff_lt-mul, mul-lt-mul_of_pos_right, lt_of_mul-lt-mul_right, arith, ltb-false, T, ltb, eqb, leb, leb→le, ltb→lt, lt→ltb, lit≤, ℤ, pos, negsuc, get_or, pow-add, pow_pos, Float}
 use Rattle.std.proofs.Math.Path.{refl}
-use Prim.Native.Nat.{compare}
 use Rattle.std.proofs.Math.Nat.{min-le_left, min-eq_left, mod-le, mod-one, zero-mod}
 use Rattle.std.proofs.Math.Dec.{lit<}
 use Rattle.std.proofs.Math.Pow.{pow-lt}
-use Rattle.std.specs.Float.Ieee.{nan, inf, fin, binary32, up, down, neg, lt, le, size, nearest, odd, units, round, sum, add, sub, mul, fits, to_unsigned}
-use lib.Ieee.Digits.{back}
-use lib.Ieee.Exact.{HasValue, round_exact}
-use lib.Ieee.Fits.{down_pos, round-fits, and_l, and_r}
-use lib.Ieee.Order.{round_mono}
-use lib.Ieee.Positive.{le→cross}
+use Rattle.std.specs.Float.Ieee.{nan, inf, fin, binary32, up, down, neg, lt, le, size, odd, units, round, sum, add, sub, mul, fits, to_unsigned}
+use Rattle.std.specs.Float.Ieee.Nearest.{closest}
+use Rattle.std.specs.Float.Ieee.Digits.{back}
+use Rattle.std.specs.Float.Ieee.Exact.{HasValue, round_exact}
+use Rattle.std.specs.Float.Ieee.Fits.{down_pos, round-fits, and_l, and_r}
+use Rattle.std.specs.Float.Ieee.Order.{round_mono}
+use Rattle.std.specs.Float.Ieee.Positive.{le→cross}
 use Rattle.words.specs.Binary32.{◌⊕◌, ◌⊖◌, ◌⊗◌, decimal}
 use Rattle.words.specs.Parts.{whole_part, whole_float}
 use Rattle.words.proofs.Values.{own, mul_at, fraction_at}
@@ -44,7 +44,7 @@ round_unsigned a c =
     let n = a * 2 ^ 149 in
     let k = size (n / c) - 24 in
     let u = c * 2 ^ k in
-    let q = nearest (n / u) (compare (n % u * 2) u) in
+    let q = closest n u in
     pick q k (ltb (q * 2 ^ k) (2 ^ 277))
   where
     pick : (q k : ℕ) (b : Bool) → Unsigned (cond b (odd 25 false q k 149) (inf false))

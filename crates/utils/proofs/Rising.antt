@@ -1,7 +1,7 @@
 -- Document 01, "Pitch": of both ratio tables each entry is larger than the one before it. One test, computed over a table, carried to each index.
 use Rattle.std.proofs.Common.{List, [], ◌∷◌, Bool, true, ◌&&◌, ℕ, zero, suc, ◌<◌, le_of_suc-le-suc, not-suc-le-zero, T, length, get_or, Float}
 use Rattle.std.specs.Float.Ieee.{nan, lt}
-use lib.Ieee.Fits.{and_l, and_r}
+use Rattle.std.specs.Float.Ieee.Fits.{and_l, and_r}
 use Rattle.words.specs.Binary32.{decimal}
 use Rattle.utils.specs.Units.{lut_pitch_ratio_high, lut_pitch_ratio_low}
 

@@ -1,8 +1,11 @@
 -- Holds are summed by one law, for frames, rows and calls: the total of two lists is the sum of their totals. Each law goes by the record's fields,
 -- all six in one sentence of arithmetic.
-use Rattle.std.proofs.Common.{◌≡◌, sym, ap, ◌∙◌, Bool, true, false, ◌||◌, List, [], ◌∷◌, ◌++◌, ℕ, ◌+◌, ◌≤◌, arith}
-use Rattle.utils.specs.Holds.{none, once, of_frame, of_map, of_bank, plus, total, AtMost}
+use Rattle.std.proofs.Common.{◌≡◌, refl, sym, ap, ◌∙◌, Bool, true, false, ◌||◌, List, [], ◌∷◌, ◌++◌, ℕ, ◌+◌, ◌≤◌, Option, None, Some, arith}
+use Rattle.std.proofs.lemmas.Bool.{false≢true}
+use Rattle.utils.specs.Holds.{none, once, of_frame, of_reading, plus, total, AtMost}
 use Rattle.utils.specs.declared.holds.Holds.{Holds}
+use Rattle.utils.specs.declared.holds.Surface.{Surface}
+use Rattle.utils.specs.declared.holds.Surface.TheVariants.{Map, Bank}
 
 -- two records of the same counts
 abbrev Same : Holds → Holds → Type 0
@@ -30,6 +33,17 @@ plus_none a = same_counts (plus a none) a (omega arith)
 pub none_plus : (a : Holds) → plus none a ≡ a
 unfolding plus
 none_plus a = same_counts (plus none a) a (omega arith)
+
+-- a frame that holds nothing adds nothing
+no_frame : (phase position level : Bool) → phase || position || level ≡ false → of_frame phase position level ≡ none
+unfolding of_frame
+no_frame false false false e = refl
+no_frame false false true e = absurd (false≢true (sym e))
+no_frame false true level e = absurd (false≢true (sym e))
+no_frame true position level e = absurd (false≢true (sym e))
+
+pub adds_nothing : (h : Holds) (phase position level : Bool) → phase || position || level ≡ false → h ≡ plus h (of_frame phase position level)
+adds_nothing h phase position level e = sym (ap (plus h) (no_frame phase position level e) ∙ plus_none h)
 
 pub plus_assoc : (a b c : Holds) → plus (plus a b) c ≡ plus a (plus b c)
 unfolding plus
@@ -69,11 +83,10 @@ most_of p =
 pub most_none : (n : ℕ) → AtMost n none
 most_none n = most_of (omega arith)
 
-pub most_map : AtMost 1 of_map
-most_map = most_of (omega arith)
-
-pub most_bank : AtMost 1 of_bank
-most_bank = most_of (omega arith)
+pub most_reading : (held : Option Surface) → AtMost 1 (of_reading held)
+most_reading None = most_none 1
+most_reading (Some Map) = most_of (omega arith)
+most_reading (Some Bank) = most_of (omega arith)
 
 once_most : (b : Bool) → once b ≤ 1
 once_most true = omega arith

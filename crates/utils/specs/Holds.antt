@@ -1,7 +1,9 @@
 -- What was held, of a reading, a frame, a block, a row or a call: document 01's `held`, and beside it document 02's five counts (N5), "phase, wave
 -- position (x or y), level (z), map or bank".
-use Rattle.std.specs.Prelude.{ℕ, ◌+◌, ◌≤◌, ◌≡◌, Bool, ◌||◌, cond, List, [], ◌∷◌}
+use Rattle.std.specs.Prelude.{ℕ, ◌+◌, ◌≤◌, ◌≡◌, Bool, ◌||◌, cond, List, [], ◌∷◌, Option, None, Some}
 use Rattle.utils.specs.declared.holds.Holds.{Holds}
+use Rattle.utils.specs.declared.holds.Surface.{Surface}
+use Rattle.utils.specs.declared.holds.Surface.TheVariants.{Map, Bank}
 
 -- No hold.
 abbrev pub none : Holds
@@ -30,6 +32,12 @@ of_map = record { held = 1; phase = 0; wave_position = 0; level = 0; map = 1; ba
 
 abbrev pub of_bank : Holds
 of_bank = record { held = 1; phase = 0; wave_position = 0; level = 0; map = 0; bank = 1 }
+
+-- A reading, by what it was held on, if it was.
+abbrev pub of_reading : Option Surface → Holds
+of_reading None = none
+of_reading (Some Map) = of_map
+of_reading (Some Bank) = of_bank
 
 -- The holds of two together.
 unfoldable pub plus : Holds → Holds → Holds

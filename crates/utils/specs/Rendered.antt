@@ -1,8 +1,6 @@
 -- A voice's block, in the words that every voice uses: what a block gives, and what a call of `render` leaves by it.
-use Rattle.std.specs.Prelude.{ℕ, ◌*◌, ◌≤◌, ◌≡◌, List, length, replicate}
-use Rattle.words.specs.Binary32.{decimal}
+use Rattle.std.specs.Prelude.{ℕ, ◌*◌, ◌≤◌, ◌≡◌, List, length}
 use Rattle.utils.specs.Holds.{AtMost}
-use Rattle.utils.specs.declared.engine.Workspace.{Workspace}
 use Rattle.utils.specs.declared.holds.Holds.{Holds}
 
 -- "frames 0 or above 128" are refused.
@@ -15,18 +13,6 @@ run_length = 2 * most_frames
 
 abbrev pub corners_length : ℕ
 corners_length = 8 * most_frames
-
--- The arrays that are lent to work in, as they are made.
-abbrev pub workspace : Workspace
-workspace =
-    record {
-      keys = replicate most_frames 0;
-      run_1 = replicate run_length (decimal 0 0);
-      run_2 = replicate run_length (decimal 0 0);
-      run_3 = replicate run_length (decimal 0 0);
-      run_4 = replicate run_length (decimal 0 0);
-      corners = replicate corners_length (decimal 0 0);
-    }
 
 -- What a block gives: its out and aux words, the next state, and what was held.
 pub record Rendered (S : Type 0) : Type 0 where

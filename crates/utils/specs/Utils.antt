@@ -1,6 +1,6 @@
 -- Document 01, "Float helpers": clamp, min, max, abs, and what the source's `utils/mod.rs` and `rsqrt.rs` have, as written there.
 use Rattle.std.specs.Prelude.{◌+◌, ◌-◌, ◌/◌, false, cond, List, length, get_or, Float}
-use Rattle.std.specs.Float.{nan, inf, fin, binary32}
+use Rattle.std.specs.Float.{nan, inf, binary32, float_with_sign}
 use Rattle.std.specs.Float.Ieee.{lt, is_nan, of_bits, to_bits}
 use Rattle.words.specs.Binary32.{◌⊕◌, ◌⊖◌, ◌⊗◌, decimal}
 use Rattle.words.specs.Parts.{whole_i32_float, part_of}
@@ -17,10 +17,8 @@ abbrev pub max_of : Float → Float → Float
 max_of x y = cond (is_nan y) x (cond (lt y x) x y)
 
 -- "abs clears the sign bit".
-unfoldable pub abs_of : Float → Float
-abs_of nan = nan
-abs_of (inf s) = inf false
-abs_of (fin s m e) = fin false m e
+abbrev pub abs_of : Float → Float
+abs_of x = float_with_sign false x
 
 -- `one_pole`: the filter's next value.
 abbrev pub one_pole : Float → Float → Float → Float

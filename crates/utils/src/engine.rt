@@ -1,7 +1,6 @@
 // What the engines share: the source's `engine/mod.rs`.
 // Based on MIT-licensed code (c) 2016 by Emilie Gillet (emilie.o.gillet@gmail.com)
 ghost use Rattle.std.specs.Prelude.{◌≡◌};
-ghost use Rattle.utils.specs.Rendered.{workspace};
 ghost use Rattle.utils.specs.Units.{a0_of, note_to_frequency};
 
 use crate::holds::Holds;
@@ -15,32 +14,17 @@ pub const RUN_LENGTH: usize = 2 * MOST_FRAMES;
 
 pub const CORNERS_LENGTH: usize = 8 * MOST_FRAMES;
 
-// The arrays that a voice works in for a block: a key for each frame, four runs and the corners.
+// The arrays that a voice is lent to work in for a block: a key for each frame, four runs and the corners. Whoever lends them makes them side by
+// side, and not in one struct, where the compiler does not know that they lie apart, and a loop that reads one and writes another is no longer
+// vectorised.
 #[derive(Drop)]
-pub struct Workspace {
-    pub keys: [u32; MOST_FRAMES],
-    pub run_1: [f32; RUN_LENGTH],
-    pub run_2: [f32; RUN_LENGTH],
-    pub run_3: [f32; RUN_LENGTH],
-    pub run_4: [f32; RUN_LENGTH],
-    pub corners: [f32; CORNERS_LENGTH],
-}
-
-impl Workspace {
-    // All of it zeros, to be made once by whoever lends it.
-    #[tactic(auto, unfolding(words::specs::Binary32::of_bits, words::specs::Binary32::decimal))]
-    pub fn new() -> Workspace
-        ensures { result ≡ workspace }
-    {
-        Workspace {
-            keys: [0; MOST_FRAMES],
-            run_1: [0.0; RUN_LENGTH],
-            run_2: [0.0; RUN_LENGTH],
-            run_3: [0.0; RUN_LENGTH],
-            run_4: [0.0; RUN_LENGTH],
-            corners: [0.0; CORNERS_LENGTH],
-        }
-    }
+pub struct Workspace<'a> {
+    pub keys: &'a mut [u32; MOST_FRAMES],
+    pub run_1: &'a mut [f32; RUN_LENGTH],
+    pub run_2: &'a mut [f32; RUN_LENGTH],
+    pub run_3: &'a mut [f32; RUN_LENGTH],
+    pub run_4: &'a mut [f32; RUN_LENGTH],
+    pub corners: &'a mut [f32; CORNERS_LENGTH],
 }
 
 // The state of a voice after a block, and what was held.

@@ -1,6 +1,6 @@
 // What was held: counts that go from a reading up to the answer of a call, and are summed on the way.
 ghost use Rattle.std.specs.Prelude.{◌≡◌};
-ghost use Rattle.utils.specs.Holds.{of_frame, plus, AtMost, most_count};
+ghost use Rattle.utils.specs.Holds.{of_frame, of_reading, plus, AtMost, most_count};
 
 use std::ops::Add;
 
@@ -18,6 +18,13 @@ pub struct Holds {
     pub map: usize,
     // Readings of the bank as a terrain that were held.
     pub bank: usize,
+}
+
+// What a reading of the terrain voice reads.
+#[derive(Clone, Copy)]
+pub enum Surface {
+    Map,
+    Bank,
 }
 
 // What a frame counts, by the kinds that it held.
@@ -52,6 +59,48 @@ impl Add for Holds {
             level: self.level + other.level,
             map: self.map + other.map,
             bank: self.bank + other.bank,
+        }
+    }
+}
+
+impl Holds {
+    // These, and what a frame counts by the kinds that it held. Nearly every frame holds nothing: a test whose branch is predicted then costs
+    // less than the additions.
+    #[tactic(auto, using(crate::proofs::Sums::adds_nothing))]
+    pub fn and_frame(self, phase: bool, wave_position: bool, level: bool) -> Holds
+        requires { AtMost most_count (plus self (of_frame phase wave_position level)) }
+        ensures { result ≡ plus self (of_frame phase wave_position level) }
+    {
+        let any = phase || wave_position || level;
+        if any {
+            self + of_frame(phase, wave_position, level)
+        } else {
+            self
+        }
+    }
+
+    // These, and what a reading counts by the surface on which it was held.
+    #[tactic(auto, using(crate::proofs::Sums::plus_none))]
+    pub fn and_reading(self, held: Option<Surface>) -> Holds
+        requires { AtMost most_count (plus self (of_reading held)) }
+        ensures { result ≡ plus self (of_reading held) }
+    {
+        match held {
+            None => self,
+            Some(Surface::Map) => {
+                self + Holds {
+                    held: 1,
+                    map: 1,
+                    ..Holds::default()
+                }
+            }
+            Some(Surface::Bank) => {
+                self + Holds {
+                    held: 1,
+                    bank: 1,
+                    ..Holds::default()
+                }
+            }
         }
     }
 }

@@ -2,7 +2,7 @@
 #![tactic(auto)]
 
 ghost use Rattle.std.specs.Prelude.{◌≡◌, ◌≤◌, length};
-ghost use Rattle.utils.specs.Utils.{clamp_of, min_of, max_of, abs_of, one_pole, interpolate_wrap};
+ghost use Rattle.utils.specs.Utils.{clamp_of, min_of, max_of, one_pole, interpolate_wrap};
 
 pub mod engine;
 pub mod holds;
@@ -49,17 +49,6 @@ pub fn max(x: f32, y: f32) -> f32
     }
 }
 
-// The magnitude: the sign bit cleared. Not `f32::abs`, which tests for below 0 and for 0 where this is one instruction.
-pub fn abs(x: f32) -> f32
-    ensures { result ≡ abs_of x }
-{
-    if x.is_nan() {
-        x
-    } else {
-        f32::from_bits(x.to_bits() % 0x80000000)
-    }
-}
-
 // One step of a one-pole low-pass filter: `out` moved towards `in_`.
 pub fn one_pole(out: f32, in_: f32, coefficient: f32) -> f32
     ensures { result ≡ one_pole out in_ coefficient }
@@ -67,7 +56,7 @@ pub fn one_pole(out: f32, in_: f32, coefficient: f32) -> f32
     out + coefficient * (in_ - out)
 }
 
-// A table of one period and more, read at a phase, with linear interpolation.
+// A table of one period and more, read at a phase, with linear interpolation, which is written out in each reading, as the source has it.
 #[tactic(auto, using(words::proofs::Parts::part_most))]
 pub fn interpolate_wrap(table: &[f32], index: f32, size: f32) -> f32
     requires { 2 ≤ length table.now }

@@ -4,7 +4,7 @@ ghost use Rattle.std.specs.Prelude.{◌≡◌};
 ghost use Rattle.utils.specs.Utils.{fast_rsqrt_carmack};
 
 // Inverse square root approximation as implemented by John Carmack.
-#[tactic(auto, unfolding(crate::specs::Utils::fast_rsqrt_carmack, words::specs::Binary32::of_bits, words::specs::Binary32::decimal))]
+#[tactic(auto, using(words::proofs::Floats::plus_word_most, std::proofs::lemmas::Float::not_nan_f32_bits), unfolding(crate::specs::Utils::fast_rsqrt_carmack, words::specs::Binary32::of_bits, words::specs::Binary32::decimal))]
 pub fn fast_rsqrt_carmack(x: f32) -> f32
     ensures { result ≡ fast_rsqrt_carmack x }
 {

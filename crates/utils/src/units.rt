@@ -4,7 +4,8 @@ ghost use Rattle.std.specs.Prelude.{◌≡◌, get_or};
 ghost use Rattle.std.specs.Float.{nan};
 ghost use Rattle.utils.specs.Units.{semitones_to_ratio, lut_pitch_ratio_high, lut_pitch_ratio_low};
 
-// The entry of a table, NaN where there is none.
+// The entry of a table. NaN and no Option where there is none, since no index of a note leads there (proofs/PitchEntries).
+#[tactic(auto, unfolding(words::specs::Binary32::of_bits))]
 fn entry(table: &[f32], i: usize) -> f32
     ensures { result ≡ get_or table.now i nan }
 {
@@ -24,7 +25,7 @@ static PITCH_RATIOS: PitchRatios = PitchRatios {
     low: LUT_PITCH_RATIO_LOW,
 };
 
-// The two tables of the source.
+// The two tables of the source, lent down from `blocks`: an equation below it holds for any tables.
 pub fn pitch_ratios() -> &'static PitchRatios
     ensures high { result.now.high ≡ lut_pitch_ratio_high }
     ensures low { result.now.low ≡ lut_pitch_ratio_low }

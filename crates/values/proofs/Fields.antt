@@ -1,6 +1,6 @@
 -- A line of words, word by word: after a word and a space come the words that are left, and after a word and an LF the lines that are left.
 use Rattle.std.proofs.Common.{◌≡◌, refl, sym, ap, ◌∙◌, ⊎_elim, Bool, true, false, ◌&&◌, true≢false, List, [], ◌∷◌, ◌++◌, append-nil, ℕ, zero, suc, ◌+◌, ◌*◌, ◌≤◌, ◌<◌, eq-or-lt_of_le, arith, ltb-true, eqb-true, ne_eqb, eq-eqb, lt-ltb, ltb, eqb, length, get_or, take, drop, take-append-drop, length-drop, drop-cons, take-take, get_or-take, length-take-le, drop-drop}
-use lib.Dec.{eqb-suc-suc, eqb-suc-zero, eqb-zero-suc}
+use Rattle.std.proofs.Math.Dec.{eqb-suc-suc, eqb-suc-zero, eqb-zero-suc}
 use Rattle.text.specs.Text.{lf, space, split, Line, ended, unended, contents, lined, lines_of, first_of, rest_of, fields_of, is_digit, each_digit, word_digits, is_word, each_word}
 use Rattle.std.specs.List.{onto_first}
 use Rattle.values.specs.Lines.{holds_words}

@@ -1,5 +1,5 @@
 -- A line of values: each word of its row is read at its source, what refuses it, and where the next line starts.
-use Rattle.std.proofs.Common.{◌≡◌, refl, sym, ap, ◌∙◌, Bool, true, false, cond, true≢false, ◌&&◌, Err, List, [], ◌∷◌, ℕ, zero, suc, ◌+◌, ◌*◌, ◌≤◌, ◌<◌, arith, ltb-true, ltb, length, get_or, take, drop, length-drop, drop-drop}
+use Rattle.std.proofs.Common.{◌≡◌, refl, sym, ap, ◌∙◌, Bool, true, false, cond, true≢false, ◌&&◌, Err, List, [], ◌∷◌, ℕ, zero, suc, ◌+◌, ◌-◌, ◌*◌, ◌≤◌, ◌<◌, arith, ltb-true, ltb, length, get_or, take, drop}
 use Rattle.std.specs.Result.{is_ok}
 use Rattle.score.specs.declared.refusal.Refusal.TheVariants.{Limit, Value}
 use Rattle.score.specs.Numbers.{accepted}
@@ -9,7 +9,7 @@ use Rattle.names.specs.declared.Source.{Source}
 use Rattle.names.specs.declared.Source.TheVariants.{Column}
 use Rattle.names.specs.Sources.{readable, each_readable}
 use Rattle.values.specs.Lines.{holds_words, word_from, row_of, test_line}
-use Rattle.values.specs.Inner.{field_bytes, line_at, OnLine}
+use Rattle.values.specs.Inner.{field_bytes, first_line, OnLine}
 use Rattle.lists.proofs.Cases.{both}
 use Rattle.text.proofs.Digits.{word_fits}
 use Rattle.std.proofs.lemmas.List.Folds.{list_all_at}
@@ -29,25 +29,28 @@ on_line_at sources line k d o h = record { names = o.names; some = o.some; words
     go false e = absurd (true≢false (sym o.readable ∙ list_all_at (readable o.names) sources k d h e))
 
 -- ---- a word of a row
-module _ (text : List ℕ) (from column : ℕ) (o : OnLine (Column column ∷ []) (line_at text from)) where
+module _ (text : List ℕ) (column : ℕ) (o : OnLine (Column column ∷ []) (first_line text)) where
   column_inside : column < o.names
   unfolding each_readable
   column_inside = ltb-true column o.names (both (ltb column o.names) true o.readable).0
 
-  line : Right o.names (drop from text)
-  line = right_line o.names (drop from text) o.some o.words
+  line : Right o.names text
+  line = right_line o.names text o.some o.words
 
-  place : drop (column * field_bytes) (drop from text) ≡ drop (from + column * field_bytes) text
-  place = drop-drop (column * field_bytes) from text
+  abbrev field : List ℕ
+  field = take (column * field_bytes + word_digits - column * field_bytes) (drop (column * field_bytes) text)
 
-  pub column_word : is_word (take word_digits (drop (from + column * field_bytes) text)) ≡ true
-  column_word = ap (λ (l : List ℕ). is_word (take word_digits l)) (sym place) ∙ line.word column column_inside
+  is_field : field ≡ take word_digits (drop (column * field_bytes) text)
+  is_field = let n : column * field_bytes + word_digits - column * field_bytes ≡ word_digits = omega arith in rw n
 
-  pub column_fits : from + column * field_bytes + word_digits ≤ length text
-  column_fits = word_fits text (from + column * field_bytes) column_word
+  pub column_word : is_word field ≡ true
+  column_word = ap is_word is_field ∙ line.word column column_inside
 
-  pub column_value : word_of (take word_digits (drop (from + column * field_bytes) text)) ≡ word_from (line_at text from) (Column column)
-  column_value = ap word_of (ap (take word_digits) (sym place) ∙ sym (line.field column column_inside))
+  pub column_fits : column * field_bytes + word_digits ≤ length text
+  column_fits = word_fits text (column * field_bytes) (line.word column column_inside)
+
+  pub column_value : word_of field ≡ word_from (first_line text) (Column column)
+  column_value = ap word_of (is_field ∙ sym (line.field column column_inside))
 
 -- ---- the test of a line
 module _ (n : ℕ) (sources : List Source) (at : ℕ) (line : Line) where
@@ -71,12 +74,12 @@ module _ (n : ℕ) (sources : List Source) (at : ℕ) (line : Line) where
       go false h = absurd (true≢false (ap is_ok (sym e ∙ no_value score h)))
 
 -- ---- a line that is not refused, and the line after it
-module _ (n : ℕ) (sources : List Source) (score : Bool) (at : ℕ) (text : List ℕ) (from : ℕ) (some : 0 < n) (z : test_line n sources score at (line_at text from) ≡ accepted) where
-  line_right : Right n (drop from text)
-  line_right = right_line n (drop from text) some (value n sources at (line_at text from) score z)
+module _ (n : ℕ) (sources : List Source) (score : Bool) (at : ℕ) (text : List ℕ) (some : 0 < n) (z : test_line n sources score at (first_line text) ≡ accepted) where
+  line_right : Right n text
+  line_right = right_line n text some (value n sources at (first_line text) score z)
 
-  pub next_line : rest_of (lines_of (drop from text)) ≡ lines_of (drop (from + n * field_bytes) text)
-  next_line = line_right.rest ∙ ap lines_of (drop-drop (n * field_bytes) from text)
+  pub next_line : rest_of (lines_of text) ≡ lines_of (drop (n * field_bytes) text)
+  next_line = line_right.rest
 
-  pub line_fits : from ≤ length text → from + n * field_bytes ≤ length text
-  line_fits i = omega (arith, line_right.fits, length-drop from text)
+  pub line_fits : n * field_bytes ≤ length text
+  line_fits = line_right.fits

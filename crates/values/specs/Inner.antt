@@ -1,5 +1,5 @@
 -- What the functions over a line of values promise each other, in the terms of `Lines`.
-use Rattle.std.proofs.Common.{ℕ, suc, ◌<◌, ◌≡◌, Bool, true, ◌&&◌, List, length, get_or, take, drop, ltb, eqb}
+use Rattle.std.specs.Prelude.{ℕ, suc, ◌<◌, ◌≡◌, Bool, true, ◌&&◌, List, length, get_or, take, ltb, eqb}
 use Rattle.text.specs.Text.{word_digits, is_word, Line, lines_of, first_of}
 use Rattle.names.specs.declared.Source.{Source}
 use Rattle.names.specs.Sources.{each_readable}
@@ -13,9 +13,9 @@ field_bytes = suc word_digits
 unfoldable pub starts_word : ℕ → List ℕ → Bool
 starts_word after text = ltb word_digits (length text) && (is_word (take word_digits text) && eqb (get_or text word_digits 0) after)
 
--- The line that starts at a place.
-abbrev pub line_at : List ℕ → ℕ → Line
-line_at text from = first_of (lines_of (drop from text))
+-- A text's first line.
+abbrev pub first_line : List ℕ → Line
+first_line text = first_of (lines_of text)
 
 -- A line has each of some sources.
 pub record OnLine (sources : List Source) (line : Line) : Type 0 where

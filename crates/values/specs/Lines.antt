@@ -1,5 +1,5 @@
 -- Document 01, "Score text": lines of values, and rows by them; "Calls and their numbers": what refuses a line.
-use Rattle.std.proofs.Common.{ℕ, Bool, false, not, ◌&&◌, ◌||◌, cond, List, [], ◌∷◌, ◌++◌, map, length, get_or, eqb, Err}
+use Rattle.std.specs.Prelude.{ℕ, Bool, false, not, ◌&&◌, ◌||◌, cond, List, [], ◌∷◌, ◌++◌, map, length, get_or, eqb, Err}
 use Rattle.score.specs.declared.refusal.Refusal.TheVariants.{Limit, Value}
 use Rattle.score.specs.Numbers.{Tested, accepted}
 use Rattle.score.specs.Limits.{row_within}

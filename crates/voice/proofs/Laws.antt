@@ -2,7 +2,7 @@
 use Rattle.std.proofs.Common.{ℕ, ◌≡◌, refl, List, false, ℤ, length, to_bits}
 use Rattle.std.specs.Float.{binary32}
 use Rattle.std.specs.Float.Ieee.{of_bits}
-use lib.Ieee.Fits.{div-fits, round-fits}
+use Rattle.std.specs.Float.Ieee.Fits.{div-fits, round-fits}
 use Rattle.words.specs.Binary32.{decimal}
 use Rattle.words.proofs.Words.{float_back}
 use Rattle.utils.specs.Units.{a0_of}

@@ -19,7 +19,7 @@ pub const TERRAIN_WITH_MAP: u32 = 2;
 
 pub const OSCILLATOR: u32 = 3;
 
-// The words that are kept of a state. They do not say which voice they are of, so a state is made by `state_of` and not From them.
+// The words that are kept of a state.
 pub const KEPT_WORDS: usize = 13;
 
 #[derive(Clone, Copy)]
@@ -50,15 +50,42 @@ pub fn voice_of(instrument: u32) -> Voice
     }
 }
 
-// The fresh state of a voice. `a0` is 55 divided by the rate.
-#[tactic(auto, unfolding(crate::specs::Voice::fresh_state))]
-pub fn fresh(voice: Voice, a0: f32) -> State
-    ensures { result ≡ fresh_state voice a0 }
-{
-    match voice {
-        Voice::Wavetable => State::Wavetable(WavetableEngine::init(a0)),
-        Voice::Terrain => State::Terrain(WaveTerrainEngine::init()),
-        Voice::Oscillator => State::Oscillator(WavetableOscillator::init()),
+impl Voice {
+    // The fresh state. `a0` is 55 divided by the rate.
+    #[tactic(auto, unfolding(crate::specs::Voice::fresh_state))]
+    pub fn fresh(self, a0: f32) -> State
+        ensures { result ≡ fresh_state self a0 }
+    {
+        match self {
+            Voice::Wavetable => State::Wavetable(WavetableEngine::init(a0)),
+            Voice::Terrain => State::Terrain(WaveTerrainEngine::init()),
+            Voice::Oscillator => State::Oscillator(WavetableOscillator::init()),
+        }
+    }
+
+    // The state by kept words. They do not say which voice they are of, so this is no From.
+    #[tactic(auto, unfolding(crate::specs::Voice::state_of))]
+    pub fn state_of(self, kept: &[u32; KEPT_WORDS]) -> State
+        ensures { result ≡ state_of self kept.now }
+    {
+        match self {
+            Voice::Wavetable => State::Wavetable(wavetable_of(kept)),
+            Voice::Terrain => State::Terrain(terrain_of(kept)),
+            Voice::Oscillator => State::Oscillator(oscillator_of(kept)),
+        }
+    }
+}
+
+impl State {
+    // The words that are kept of it. A method and no From: its name says which words, where `into` would only say that they are words.
+    pub fn kept_words(self) -> [u32; KEPT_WORDS]
+        ensures { result ≡ kept_words self }
+    {
+        match self {
+            State::Wavetable(w) => wavetable_words(w),
+            State::Terrain(t) => terrain_words(t),
+            State::Oscillator(o) => oscillator_words(o),
+        }
     }
 }
 
@@ -128,17 +155,6 @@ fn oscillator_words(s: WavetableOscillator) -> [u32; KEPT_WORDS]
     ]
 }
 
-// The words that are kept of a state.
-pub fn kept_words(s: State) -> [u32; KEPT_WORDS]
-    ensures { result ≡ kept_words s }
-{
-    match s {
-        State::Wavetable(w) => wavetable_words(w),
-        State::Terrain(t) => terrain_words(t),
-        State::Oscillator(o) => oscillator_words(o),
-    }
-}
-
 // The wavetable state by kept words.
 #[tactic(auto, unfolding(crate::specs::Voice::wavetable_of))]
 fn wavetable_of(kept: &[u32; KEPT_WORDS]) -> WavetableEngine
@@ -195,17 +211,5 @@ fn oscillator_of(kept: &[u32; KEPT_WORDS]) -> WavetableOscillator
             lp: words::of_word(kept[5]),
             previous: words::of_word(kept[6]),
         },
-    }
-}
-
-// The state of a voice by kept words.
-#[tactic(auto, unfolding(crate::specs::Voice::state_of))]
-pub fn state_of(voice: Voice, kept: &[u32; KEPT_WORDS]) -> State
-    ensures { result ≡ state_of voice kept.now }
-{
-    match voice {
-        Voice::Wavetable => State::Wavetable(wavetable_of(kept)),
-        Voice::Terrain => State::Terrain(terrain_of(kept)),
-        Voice::Oscillator => State::Oscillator(oscillator_of(kept)),
     }
 }

@@ -29,21 +29,31 @@ use Rattle.wave_terrain_engine.specs.Block.{
   frame_out,
   frame_aux,
   frame_holds,
+  frames_out,
+  frames_aux,
+  frames_holds,
   scale,
   radius_of,
   interpolators_of,
   rendered,
 }
-use Rattle.wave_terrain_engine.specs.Stages.{stage_x, stage_layer, stage_fraction, stage_height, stage_z, stage_out, stage_phase, stage_aux, FramesDone}
+use Rattle.wave_terrain_engine.specs.Stages.{stage_x, stage_layer, stage_fraction, stage_height, stage_z, stage_out, stage_phase, stage_aux}
 use Rattle.wave_terrain_engine.specs.declared.frames.Interpolators.{Interpolators}
 use Rattle.wave_terrain_engine.proofs.Counts.{count_pairs}
 
+-- what the frame loop leaves
+pub record FramesDone (g : Ground) (run run2 : List Float) (start : Interpolators) (n : ℕ) (holds : Holds) (out aux : List ℕ) : Type 0 where
+  pub out_is : out ≡ frames_out g.sine.now g.bank.now g.map.now run run2 start n
+  pub aux_is : aux ≡ frames_aux g.sine.now g.bank.now g.map.now run run2 start n
+  pub holds_are : holds ≡ frames_holds g.sine.now g.bank.now g.map.now run run2 start n
+  pub holds_most : AtMost (4 * n) holds
+
 -- a layer and the next one, or the same, are within
-pub layer_fits : (map layers : List ℕ) (start : Interpolators) (top n up j : ℕ)
-    → top ≡ layer_top map → Filled (stage_layer top start) 0 layers n → j < n * 2 → up ≤ 1 → get_or layers (j / 2) 0 + up ≤ layer_top map + 1
-layer_fits map layers start top n up j e p l u =
-    let k : get_or layers (j / 2) 0 ≡ stage_layer top start (j / 2) = p.done (j / 2) (omega arith) in
-    omega (arith, k, held_most top (stepped (state_after interpolators_next (j / 2) start).terrain_idx).value)
+pub layer_fits : (map layers : List ℕ) (start : Interpolators) (n up j : ℕ)
+    → Filled (stage_layer (layer_top map) start) 0 layers n → j < n * 2 → up ≤ 1 → get_or layers (j / 2) 0 + up ≤ layer_top map + 1
+layer_fits map layers start n up j p l u =
+    let k : get_or layers (j / 2) 0 ≡ stage_layer (layer_top map) start (j / 2) = p.done (j / 2) (omega arith) in
+    omega (arith, k, held_most (layer_top map) (stepped (state_after interpolators_next (j / 2) start).terrain_idx).value)
 
 entry_of : (i : ℕ) (f : Frame) → (state_after frame_next i f).ij ≡ f.ij + i * 2
 unfolding state_after

@@ -1,14 +1,12 @@
 -- What the short loops over lent runs leave: frame by frame the values of `Block`, read off the runs that the loop before left.
-use Rattle.std.specs.Prelude.{ℕ, ◌+◌, ◌*◌, ◌/◌, ◌≡◌, List, get_or, Float}
+use Rattle.std.specs.Prelude.{ℕ, ◌+◌, ◌*◌, ◌/◌, List, get_or, Float}
 use Rattle.std.specs.Float.{nan, binary32}
 use Rattle.std.specs.Float.Ieee.{to_bits}
-use Rattle.utils.specs.Holds.{AtMost}
 use Rattle.utils.specs.Frames.{state_after}
-use Rattle.utils.specs.declared.holds.Holds.{Holds}
 use Rattle.sine_oscillator.specs.Sine.{sine_of}
 use Rattle.terrain.specs.Heights.{Reading, terrain_of}
 use Rattle.terrain.specs.declared.Ground.{Ground}
-use Rattle.wave_terrain_engine.specs.Block.{oversampling, interpolators_next, offset_of, layer_of, shifted_x, between, out_of, phase_of, frames_out, frames_aux, frames_holds}
+use Rattle.wave_terrain_engine.specs.Block.{oversampling, interpolators_next, offset_of, layer_of, shifted_x, between, out_of, phase_of}
 use Rattle.wave_terrain_engine.specs.declared.frames.Interpolators.{Interpolators}
 
 -- x of oversample j.
@@ -41,10 +39,3 @@ module _ (ys fractions z0s z1s : List Float) where
 -- The aux word of frame i.
 abbrev pub stage_aux : List Float → List Float → ℕ → ℕ
 stage_aux sine phases i = to_bits binary32 (sine_of sine (get_or phases i nan))
-
--- What the frame loop leaves.
-pub record FramesDone (g : Ground) (run run2 : List Float) (start : Interpolators) (n : ℕ) (holds : Holds) (out aux : List ℕ) : Type 0 where
-  pub out_is : out ≡ frames_out g.sine.now g.bank.now g.map.now run run2 start n
-  pub aux_is : aux ≡ frames_aux g.sine.now g.bank.now g.map.now run run2 start n
-  pub holds_are : holds ≡ frames_holds g.sine.now g.bank.now g.map.now run run2 start n
-  pub holds_most : AtMost (4 * n) holds

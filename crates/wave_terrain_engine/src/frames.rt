@@ -1,17 +1,20 @@
-// The frames of a block, in short loops over lent runs. Each value has a run of its own, and no struct holds a frame's: so the loops are fast.
+// The frames of a block, in short loops over lent runs. At each stage a value has a run of its own: a frame's two oversamples lie side by side in
+// it, and `shift` and `sums` take both in one vector instruction. `shift` and `heights` are told how many entries to fill, and ask that so many be
+// there:
+// arrays cut to that length would be asked to be as long as each other.
 // Based on MIT-licensed code (c) 2021 by Emilie Gillet (emilie.o.gillet@gmail.com)
-ghost use Rattle.std.specs.Prelude.{◌≡◌, ℕ, suc, ◌+◌, ◌*◌, ◌/◌, ◌≤◌, ◌<◌, length, get_or, take};
+ghost use Rattle.std.specs.Prelude.{◌≡◌, ℕ, suc, ◌+◌, ◌*◌, ◌/◌, ◌≤◌, ◌<◌, length, get_or};
 ghost use Rattle.std.specs.Float.{nan};
 ghost use Rattle.utils.specs.Holds.{AtMost};
 ghost use Rattle.utils.specs.Frames.{state_after, sum_of, Filled};
-ghost use Rattle.utils.specs.Rendered.{most_frames, run_length, Places};
-ghost use Rattle.terrain.specs.Layers.{top_with_map, layer_top};
+ghost use Rattle.utils.specs.Rendered.{most_frames, run_length};
+ghost use Rattle.terrain.specs.Layers.{layer_top};
 ghost use Rattle.wave_terrain_engine.specs.Block.{oversampling, interpolators_next, shifted_x, between, out_of, phase_of};
-ghost use Rattle.wave_terrain_engine.specs.Stages.{stage_x, stage_layer, stage_fraction, stage_height, stage_out, stage_phase, stage_aux, FramesDone};
+ghost use Rattle.wave_terrain_engine.specs.Stages.{stage_x, stage_layer, stage_fraction, stage_height, stage_out, stage_phase, stage_aux};
 
 use sine_oscillator::sine::sine;
 use terrain::Ground;
-use utils::engine::{Block, CORNERS_LENGTH, MOST_FRAMES, RUN_LENGTH, Workspace};
+use utils::engine::{CORNERS_LENGTH, MOST_FRAMES, RUN_LENGTH};
 use utils::holds::Holds;
 use utils::parameter_interpolator::ParameterInterpolator;
 
@@ -46,27 +49,27 @@ impl Interpolators {
 fn shifted_x(x: f32, x_offset: f32) -> f32
     ensures { result ≡ shifted_x x x_offset }
 {
-    x * (1.0 - utils::abs(x_offset)) + x_offset
+    x * (1.0 - x_offset.abs()) + x_offset
 }
 
 // The x of each oversample, and each frame's layer with its fraction.
-#[tactic(auto, using(words::proofs::Parts::part_most))]
+#[tactic(auto, using(words::proofs::Parts::part_most, terrain::proofs::Layers::top_most))]
 pub fn shift(
     start: Interpolators,
     n: usize,
-    top: usize,
+    map: &[u8],
     run: &[f32; RUN_LENGTH],
     xs: &mut [f32; RUN_LENGTH],
     layers: &mut [u32; MOST_FRAMES],
     fractions: &mut [f32; CORNERS_LENGTH],
 ) -> Interpolators
-    requires few_frames { n ≤ most_frames }
-    requires top_le_top_with_map { top ≤ top_with_map }
+    requires { n ≤ most_frames }
     ensures value { result ≡ state_after interpolators_next n start }
     ensures filled { Filled (stage_x run.now start) nan xs.new (n * oversampling) }
-    ensures filled_2 { Filled (stage_layer top start) 0 layers.new n }
-    ensures filled_3 { Filled (stage_fraction top start) nan fractions.new n }
+    ensures filled_2 { Filled (stage_layer (layer_top map.now) start) 0 layers.new n }
+    ensures filled_3 { Filled (stage_fraction (layer_top map.now) start) nan fractions.new n }
 {
+    let top = terrain::layer_top(map);
     let mut s = start;
     for i in 0..n {
         s = s.next();
@@ -82,7 +85,7 @@ pub fn shift(
 }
 
 // The height at each of n oversamples, `up` layers above its frame's layer; what comes back is what the readings held.
-#[tactic(auto, using(terrain::proofs::Layers::top_most, crate::proofs::Counts::tally_none, crate::proofs::Counts::tally_fits, utils::proofs::Runs::filling_none))]
+#[tactic(auto, using(terrain::proofs::Layers::top_most, utils::proofs::Runs::filling_none))]
 pub fn heights(
     n: usize,
     up: usize,
@@ -98,17 +101,17 @@ pub fn heights(
     ensures value { result ≡ sum_of suc (λ (j : ℕ). (stage_height ground.now xs.now ys.now layers.now up j).holds) n 0 }
     ensures filled { Filled (λ (j : ℕ). (stage_height ground.now xs.now ys.now layers.now up j).value) nan zs.new n }
 {
-    let mut held = 0;
+    let mut holds = Holds::default();
     for j in 0..n {
         let layer = layers[j / OVERSAMPLING] as usize;
         let z = ground.terrain(xs[j], ys[j], layer + up);
         zs[j] = z.value;
-        held += z.held;
+        holds = holds.and_reading(z.held);
     }
-    terrain::holds_of(held)
+    holds
 }
 
-// From one height to the next layer's.
+// From one height to the next layer's, as the source writes it out.
 fn between_at(z0s: &[f32; RUN_LENGTH], z1s: &[f32; RUN_LENGTH], j: usize, fraction: f32) -> f32
     requires { j < run_length }
     ensures { result ≡ between (get_or z0s.now j nan) (get_or z1s.now j nan) fraction }
@@ -166,63 +169,5 @@ pub fn finish(table: &[f32; 641], phases: &[f32; RUN_LENGTH], aux: &mut [u32])
 {
     for i in 0..aux.len() {
         aux[i] = words::to_word(sine(table, phases[i]));
-    }
-}
-
-// The frames of a block, by the path in the first two runs: the interpolators after them, and what the readings held.
-pub fn render_frames(
-    start: Interpolators,
-    ground: &Ground<'_>,
-    work: &mut Workspace,
-    out: &mut [u32],
-    aux: &mut [u32],
-) -> Block<Interpolators>
-    requires { Places out.old aux.old }
-    ensures end_value { result.state ≡ state_after interpolators_next (length out.old) start }
-    ensures frames_done { FramesDone ground.now
-        (take (oversampling * length out.old) work.old.run_1)
-        (take (oversampling * length out.old) work.old.run_2)
-        start (length out.old) result.holds out.new aux.new }
-{
-    let n = out.len();
-    let end = shift(
-        start,
-        n,
-        terrain::layer_top(ground.map),
-        &work.run_1,
-        &mut work.run_3,
-        &mut work.keys,
-        &mut work.corners,
-    );
-    let holds_0 = heights(
-        n * OVERSAMPLING,
-        0,
-        ground,
-        &work.run_3,
-        &work.run_2,
-        &work.keys,
-        &mut work.run_1,
-    );
-    let holds_1 = heights(
-        n * OVERSAMPLING,
-        1,
-        ground,
-        &work.run_3,
-        &work.run_2,
-        &work.keys,
-        &mut work.run_4,
-    );
-    sums(
-        &work.run_2,
-        &work.corners,
-        &work.run_1,
-        &work.run_4,
-        &mut work.run_3,
-        out,
-    );
-    finish(ground.sine, &work.run_3, aux);
-    Block {
-        state: end,
-        holds: holds_0 + holds_1,
     }
 }

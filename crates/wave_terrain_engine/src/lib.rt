@@ -16,10 +16,10 @@ ghost use Rattle.std.specs.Prelude.{◌≡◌, length};
 ghost use Rattle.utils.specs.Rendered.{Places, Renders};
 ghost use Rattle.wave_terrain_engine.specs.Block.{fresh, radius_of, interpolators_of, rendered};
 
-use frames::Interpolators;
+use frames::{Interpolators, OVERSAMPLING, SCALE};
 use sine_oscillator::FastSineOscillator;
 use terrain::Ground;
-use utils::engine::{Block, EngineParameters, Workspace};
+use utils::engine::{Block, EngineParameters, Workspace, note_to_frequency};
 use utils::parameter_interpolator::ParameterInterpolator;
 use utils::units::PitchRatios;
 
@@ -33,7 +33,8 @@ pub struct WaveTerrainEngine {
 }
 
 impl WaveTerrainEngine {
-    // The top of the whole layer number, without a map and with one.
+    // The top of the whole layer number, without a map and with one. Document 01 has tops as constants of the voice's type: these and the edges are
+    // named here again, and who uses the voice names no lower crate.
     pub const TOP: usize = terrain::TOP;
 
     pub const TOP_WITH_MAP: usize = terrain::TOP_WITH_MAP;
@@ -43,6 +44,7 @@ impl WaveTerrainEngine {
 
     pub const BANK_EDGE: usize = terrain::BANK_EDGE;
 
+    // The fresh state, each field by its name as the equation has it.
     #[tactic(auto, unfolding(words::specs::Binary32::of_bits, words::specs::Binary32::decimal))]
     pub fn init() -> WaveTerrainEngine
         ensures { result ≡ fresh }
@@ -54,13 +56,14 @@ impl WaveTerrainEngine {
         }
     }
 
-    // The frames of a block, as many as `out` has words. The arrays to work in are lent, and overwritten.
+    // The frames of a block, as many as `out` has words. What is read, worked in and written stands side by side, since it is lent for a call, for a
+    // run and for a row; out and aux are two slices, as the C interface lends them, and so one clause says that they are as long as each other.
     pub fn render(
         self,
         parameters: EngineParameters,
         ground: &Ground<'_>,
         ratios: &PitchRatios,
-        work: &mut Workspace,
+        work: Workspace<'_>,
         out: &mut [u32],
         aux: &mut [u32],
     ) -> Block<WaveTerrainEngine>
@@ -69,29 +72,37 @@ impl WaveTerrainEngine {
             (length out.old) parameters self)
             (length out.old) result.state result.holds out.new aux.new }
     {
+        let Workspace {
+            keys: layers,
+            run_1: path_xs,
+            run_2: ys,
+            run_3: xs,
+            run_4: z1s,
+            corners: fractions,
+        } = work;
         let n = out.len();
-        let f0 = utils::engine::note_to_frequency(
-            ratios,
-            parameters.note,
-            parameters.a0_normalized,
-        );
-        let radius = radius_at(f0, parameters.timbre);
+        let f0 = note_to_frequency(ratios, parameters.note, parameters.a0_normalized);
         let path = self.path.render_quadrature(
-            f0 * frames::SCALE,
-            radius,
-            frames::OVERSAMPLING * n,
-            &mut work.run_1,
-            &mut work.run_2,
+            f0 * SCALE,
+            radius_at(f0, parameters.timbre),
+            OVERSAMPLING * n,
+            path_xs,
+            ys,
         );
         let start = self.interpolators(parameters, ground.map, n);
-        let frames = frames::render_frames(start, ground, work, out, aux);
+        let end = frames::shift(start, n, ground.map, path_xs, xs, layers, fractions);
+        // The heights take the place of the path's x, and the phases that of the x of each oversample.
+        let holds_0 = frames::heights(n * OVERSAMPLING, 0, ground, xs, ys, layers, path_xs);
+        let holds_1 = frames::heights(n * OVERSAMPLING, 1, ground, xs, ys, layers, z1s);
+        frames::sums(ys, fractions, path_xs, z1s, xs, out);
+        frames::finish(ground.sine, xs, aux);
         Block {
             state: WaveTerrainEngine {
                 path,
-                offset: frames.state.offset.value,
-                terrain_idx: frames.state.terrain_idx.value,
+                offset: end.offset.value,
+                terrain_idx: end.terrain_idx.value,
             },
-            holds: frames.holds,
+            holds: holds_0 + holds_1,
         }
     }
 

@@ -1,4 +1,5 @@
-// The eight corner readings of a frame, and their fold.
+// The eight corner readings of a frame, and their fold. `size` stands beside the arrays: slices cut to it would be asked to be as long as each
+// other.
 // Based on MIT-licensed code (c) 2016 by Emilie Gillet (emilie.o.gillet@gmail.com)
 #![tactic(auto)]
 
@@ -48,7 +49,8 @@ fn fold_level(z: usize) -> usize
     if z >= 4 { 7 - z } else { z }
 }
 
-// How far the waves of neighbours along x lie apart.
+// How far the waves of neighbours along x lie apart. One function for each axis: one for both would be handed both distances, and its name would
+// no longer say which way.
 fn along_x(level: usize) -> usize
     ensures { result ≡ spread level }
 {
@@ -75,7 +77,7 @@ fn wave(x: usize, y: usize, level: usize) -> usize
     }
 }
 
-// The wave that lies `step` further on.
+// The wave that lies `step` further on. Both are below the number of waves, so a test does for the remainder.
 fn further(wave: usize, step: usize) -> usize
     requires { (wave < waves) × (step < waves) }
     ensures { result ≡ (wave + step) % waves }
@@ -105,7 +107,7 @@ fn level_at(x: usize, y: usize, level: usize) -> Level
     }
 }
 
-// The places of a key, which is x + 8 y + 64 z.
+// The places of a key, which is x + 8 y + 64 z: below 448, since z is below 7.
 fn places_at(key: u32) -> Places
     requires { key < 448 }
     ensures { result.key ≡ key }
@@ -132,34 +134,40 @@ fn places_for(at_hand: Places, key: u32) -> Places
     }
 }
 
-// The readings of two waves at a phase: its whole part p, its fraction f.
-fn read_row(bank: &[i16; BANK_LENGTH], a: usize, b: usize, p: usize, f: f32) -> [f32; 2]
-    requires { (a + wave_length ≤ bank_length) × ((b + wave_length ≤ bank_length) × (p < table_size)) }
-    ensures { result ≡ read_at bank.now (a + p) f ∷ read_at bank.now (b + p) f ∷ [] }
+// A phase in samples of a wave: its whole part and its fraction. No `Part`: what was held is counted by then, and the whole part lies in a wave.
+#[derive(Clone, Copy)]
+struct Phase {
+    whole: usize,
+    fraction: f32,
+    ghost fits: { whole < table_size },
+}
+
+// The readings of two waves at a phase.
+fn read_row(bank: &[i16; BANK_LENGTH], a: usize, b: usize, p: Phase) -> [f32; 2]
+    requires { (a + wave_length ≤ bank_length) × (b + wave_length ≤ bank_length) }
+    ensures { result ≡ read_at bank.now (a + p.whole) p.fraction ∷ read_at bank.now (b + p.whole) p.fraction ∷ [] }
 {
-    let x0 = interpolate_wave_hermite(bank, a + p, f);
-    let x1 = interpolate_wave_hermite(bank, b + p, f);
+    let x0 = interpolate_wave_hermite(bank, a + p.whole, p.fraction);
+    let x1 = interpolate_wave_hermite(bank, b + p.whole, p.fraction);
     [x0, x1]
 }
 
 // The four readings of a level, by y and x.
-fn read_level(bank: &[i16; BANK_LENGTH], s: Level, p: usize, f: f32) -> [[f32; 2]; 2]
-    requires phase_fits { p < table_size }
-    requires level_fits { LevelFits s }
-    ensures { result ≡ read_level bank.now s p f }
+fn read_level(bank: &[i16; BANK_LENGTH], s: Level, p: Phase) -> [[f32; 2]; 2]
+    requires { LevelFits s }
+    ensures { result ≡ read_level bank.now s p.whole p.fraction }
 {
-    let y0 = read_row(bank, s.x0y0, s.x1y0, p, f);
-    let y1 = read_row(bank, s.x0y1, s.x1y1, p, f);
+    let y0 = read_row(bank, s.x0y0, s.x1y0, p);
+    let y1 = read_row(bank, s.x0y1, s.x1y1, p);
     [y0, y1]
 }
 
 // The eight corner readings, by z, y and x.
-fn read_corners(bank: &[i16; BANK_LENGTH], s: Places, p: usize, f: f32) -> [[[f32; 2]; 2]; 2]
-    requires { p < table_size }
-    ensures { result ≡ corners_at bank.now p f (s.key % 8) (s.key / 8 % 8) (s.key / 64) }
+fn read_corners(bank: &[i16; BANK_LENGTH], s: Places, p: Phase) -> [[[f32; 2]; 2]; 2]
+    ensures { result ≡ corners_at bank.now p.whole p.fraction (s.key % 8) (s.key / 8 % 8) (s.key / 64) }
 {
-    let z0 = read_level(bank, s.z0, p, f);
-    let z1 = read_level(bank, s.z1, p, f);
+    let z0 = read_level(bank, s.z0, p);
+    let z1 = read_level(bank, s.z1, p);
     [z0, z1]
 }
 
@@ -179,7 +187,9 @@ fn store(c: [[[f32; 2]; 2]; 2], at: usize, corners: &mut [f32])
     corners[at + 7] = c[1][1][1];
 }
 
-// The corner readings of `size` frames. They lie flat, eight to a frame: a struct that is lent gets no generated proof with an array of arrays in it.
+// The corner readings of `size` frames. A frame's key is that of its places and 512 times its whole phase. The corners lie flat, eight to a frame:
+// a struct that is lent, as `Workspace` is, gets no generated proof with an array of arrays in it. What is written is a slice: an array would ask
+// for places past those of the frames.
 pub fn read_all(
     bank: &[i16; BANK_LENGTH],
     size: usize,
@@ -195,12 +205,16 @@ pub fn read_all(
     for i in 0..size {
         let key = keys[i];
         s = places_for(s, key % 512);
-        let c = read_corners(bank, s, (key / 512) as usize, phases[i]);
+        let p = Phase {
+            whole: (key / 512) as usize,
+            fraction: phases[i],
+        };
+        let c = read_corners(bank, s, p);
         store(c, i * 8, corners);
     }
 }
 
-// The corners out of eight places of the list.
+// The corners out of eight places of the list. They come to be nested by z, y and x, so a copy of the eight would be a step more.
 #[tactic(auto, unfolding(crate::specs::Stages::loaded))]
 fn load(corners: &[f32; CORNERS_LENGTH], at: usize) -> [[[f32; 2]; 2]; 2]
     requires { at + 7 < corners_length }
@@ -218,14 +232,14 @@ fn load(corners: &[f32; CORNERS_LENGTH], at: usize) -> [[[f32; 2]; 2]; 2]
     ]
 }
 
-// Between two readings.
+// Between two readings, as the source writes it out.
 fn mix(a: f32, b: f32, t: f32) -> f32
     ensures { result ≡ mix a b t }
 {
     a + (b - a) * t
 }
 
-// The corners folded along x.
+// The corners folded along x. One function for each axis, since each takes an array of one dimension less.
 fn fold_x(c: [[[f32; 2]; 2]; 2], t: f32) -> [[f32; 2]; 2]
     ensures { result ≡ fold_x c t }
 {

@@ -1,6 +1,6 @@
 -- A block in stages is the block frame by frame: at each frame, what a stage leaves is what the definition has from the state before that frame.
 use Rattle.std.proofs.Common.{◌≡◌, refl, sym, ap, ◌∙◌, subst, List, ℕ, zero, suc, ◌*◌, ◌≤◌, ◌<◌, arith, ℤ, length, get_or, Float}
-use lib.Ieee.{to_bits}
+use Rattle.std.specs.Float.Ieee.{to_bits}
 use Rattle.std.specs.Float.{nan, binary32}
 use Rattle.utils.specs.Holds.{total, AtMost}
 use Rattle.utils.specs.Frames.{state_after, sum_of, Filled}

@@ -1,12 +1,11 @@
 -- The walk goes on: the positions, what the frames held and the five lists are those of one more frame. And the parts of positions keep within their tops.
-use Rattle.std.proofs.Common.{◌≡◌, refl, sym, ap, ◌∙◌, Bool, true, false, ◌||◌, List, ℕ, ◌+◌, ◌<◌, length, set, Float}
-use Rattle.std.proofs.Math.Bool.{false≢true}
+use Rattle.std.proofs.Common.{◌≡◌, refl, ap, ◌||◌, List, ℕ, ◌+◌, ◌<◌, length, set, Float}
 use Rattle.std.specs.Float.{nan}
 use Rattle.words.proofs.Parts.{part_most}
-use Rattle.utils.specs.Holds.{none, of_frame, plus, total, AtMost}
+use Rattle.utils.specs.Holds.{none, plus, total, AtMost}
 use Rattle.utils.specs.Frames.{state_after, each_of, sum_of}
 use Rattle.utils.specs.declared.holds.Holds.{Holds}
-use Rattle.utils.proofs.Sums.{plus_none, most_none, most_frame, most_plus}
+use Rattle.utils.proofs.Sums.{most_none, most_frame, most_plus}
 use Rattle.utils.proofs.Frames.{after_more, sum_more}
 use Rattle.utils.proofs.Runs.{Filling, filling_none, filling_more}
 use Rattle.oscillator.specs.Bank.{phase_top}
@@ -28,19 +27,6 @@ parts_fit p s e =
 pub frame_most : (p : Parts) → AtMost 1 (holds_of p)
 unfolding holds_of
 frame_most p = most_frame p.phase.held (p.x.held || p.y.held) p.z.held
-
--- a frame that holds nothing
-no_frame : (phase x y z : Bool) → phase || x || y || z ≡ false → of_frame phase (x || y) z ≡ none
-unfolding of_frame
-no_frame false false false false e = refl
-no_frame false false false true e = absurd (false≢true (sym e))
-no_frame false false true z e = absurd (false≢true (sym e))
-no_frame false true y z e = absurd (false≢true (sym e))
-no_frame true x y z e = absurd (false≢true (sym e))
-
-pub adds_nothing : (holds : Holds) (p : Parts) → p.phase.held || p.x.held || p.y.held || p.z.held ≡ false → holds ≡ plus holds (holds_of p)
-unfolding holds_of
-adds_nothing holds p e = sym (ap (plus holds) (no_frame p.phase.held p.x.held p.y.held p.z.held e) ∙ plus_none holds)
 
 -- what the frame that begins with s holds
 abbrev pub holds_at : Float → Positions → Holds

@@ -1,6 +1,6 @@
 // What goes from frame to frame: the positions, the differentiator, and the words.
 // Each stage asks that `size` be at most 128 frames: a type of its own for that number would be no plainer than the one clause.
-ghost use Rattle.std.specs.Prelude.{◌≡◌, ◌||◌, ◌≤◌, length, get_or};
+ghost use Rattle.std.specs.Prelude.{◌≡◌, ◌≤◌, length, get_or};
 ghost use Rattle.std.specs.Float.{nan, binary32};
 ghost use Rattle.std.specs.Float.Ieee.{to_bits};
 ghost use Rattle.utils.specs.Holds.{plus, AtMost, most_count};
@@ -75,22 +75,7 @@ impl Positions {
 }
 
 impl Parts {
-    // What a frame holds: phase, wave position and level.
-    #[tactic(auto, unfolding(crate::specs::Wavetable::holds_of))]
-    fn held(self) -> Holds
-        ensures { result ≡ holds_of self }
-    {
-        utils::holds::of_frame(self.phase.held, self.x.held | self.y.held, self.z.held)
-    }
-
-    // Whether a frame holds anything: test by test, which costs less than one sum of all four, since nearly every frame fails all.
-    fn any_held(self) -> bool
-        ensures { result ≡ (self.phase.held || self.x.held || self.y.held || self.z.held) }
-    {
-        self.phase.held || self.x.held || self.y.held || self.z.held
-    }
-
-    // The four whole parts in one number.
+    // The four whole parts in one number, since the lent `keys` have one word for each frame.
     fn key(self) -> u32
         requires { PartsFit self }
         ensures { result ≡ key_of self }
@@ -99,19 +84,17 @@ impl Parts {
     }
 }
 
-// The holds of the frames before, and those of a frame. Nearly every frame holds nothing; then nothing is added, for speed.
+// The holds of the frames before, and those of a frame: phase, wave position and level.
+#[tactic(auto, unfolding(crate::specs::Wavetable::holds_of))]
 fn with_held(holds: Holds, p: Parts) -> Holds
     requires { AtMost most_count (plus holds (holds_of p)) }
     ensures { result ≡ plus holds (holds_of p) }
 {
-    if p.any_held() {
-        holds + p.held()
-    } else {
-        holds
-    }
+    holds.and_frame(p.phase.held, p.x.held | p.y.held, p.z.held)
 }
 
-// Where `size` frames read: the whole parts of each in one number, and the four fractions. Each goes into an array of its own, since the loops that read them vectorise.
+// Where `size` frames read: the whole parts of each in one number, and the four fractions. Each goes into an array of its own, so that the loops
+// that read them vectorise.
 pub fn walk(
     start: Positions,
     lp_coefficient: f32,

@@ -71,7 +71,7 @@ fn quantise(x: f32, quantization: f32) -> f32
 }
 
 impl WavetableEngine {
-    // The highest whole parts of the positions.
+    // The highest whole parts of the positions, as constants of the voice's type: document 01 has them so.
     pub const PHASE_TOP: usize = oscillator::bank::PHASE_TOP;
 
     pub const X_TOP: usize = 7;
@@ -80,7 +80,7 @@ impl WavetableEngine {
 
     pub const Z_TOP: usize = 6;
 
-    // The fresh state. `a0_normalized` is 55 divided by the rate.
+    // The fresh state, each field by its name as the equation has it. `a0_normalized` is 55 divided by the rate.
     #[tactic(auto, unfolding(words::specs::Binary32::of_bits, words::specs::Binary32::decimal))]
     pub fn init(a0_normalized: f32) -> WavetableEngine
         ensures { result ≡ fresh a0_normalized }
@@ -152,13 +152,14 @@ impl WavetableEngine {
         }
     }
 
-    // A block: one sample into each place of `out` and of `aux`. The pitch tables and the arrays to work in are lent.
+    // A block: one sample into each place of `out` and of `aux`. The pitch tables and the arrays to work in are lent. The bank is a slice, as the C
+    // interface lends it; the stages take it as an array.
     pub fn render(
         self,
         parameters: EngineParameters,
         bank: &[i16],
         ratios: &PitchRatios,
-        work: &mut Workspace,
+        work: Workspace<'_>,
         out: &mut [u32],
         aux: &mut [u32],
     ) -> Block<WavetableEngine>
@@ -167,39 +168,31 @@ impl WavetableEngine {
         ensures { Renders (rendered bank.now ratios.now.high ratios.now.low (length out.old) parameters self)
             (length out.old) result.state result.holds out.new aux.new }
     {
+        let Workspace {
+            keys,
+            run_1: xs,
+            run_2: ys,
+            run_3: zs,
+            run_4: phases,
+            corners,
+        } = work;
         let bank = <&[i16; BANK_LENGTH]>::try_from(bank).unwrap();
         let size = out.len();
         let m = self.set_up(parameters, ratios, size);
         let start = m.start;
-        let w = frames::walk(
-            start,
-            m.lp_coefficient,
-            size,
-            &mut work.keys,
-            &mut work.run_1,
-            &mut work.run_2,
-            &mut work.run_3,
-            &mut work.run_4,
-        );
-        waves::read_all(bank, size, &work.keys, &work.run_4, &mut work.corners);
-        waves::fold_all(
-            size,
-            &work.run_1,
-            &work.run_2,
-            &work.run_3,
-            &work.corners,
-            &mut work.run_4,
-        );
+        let w = frames::walk(start, m.lp_coefficient, size, keys, xs, ys, zs, phases);
+        waves::read_all(bank, size, keys, phases, corners);
+        // The folded corners take the place of the phases, and the samples that of x.
+        waves::fold_all(size, xs, ys, zs, corners, phases);
         let diff_out = frames::differentiate_all(
             self.diff_out,
             start.f0_modulation,
             size,
-            &work.run_4,
-            &mut work.run_1,
+            phases,
+            xs,
         );
-        frames::words_all(&work.run_1, out, aux);
+        frames::words_all(xs, out, aux);
         let end = w.state;
-        let holds = w.holds;
         Block {
             state: WavetableEngine {
                 phase: end.phase,
@@ -215,7 +208,7 @@ impl WavetableEngine {
                 previous_f0: end.f0_modulation.value,
                 diff_out,
             },
-            holds,
+            holds: w.holds,
         }
     }
 }

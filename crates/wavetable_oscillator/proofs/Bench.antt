@@ -1,6 +1,6 @@
 -- Values as a joint check of the definitions: how far the waveform goes, and the first number that is held.
 use Rattle.std.proofs.Common.{◌≡◌, refl, true}
-use lib.Ieee.{of_int, round, sub, to_bits, to_unsigned}
+use Rattle.std.specs.Float.Ieee.{of_int, round, sub, to_bits, to_unsigned}
 use Rattle.std.specs.Float.{binary32}
 use Rattle.words.specs.Binary32.{◌⊖◌, decimal, of_count}
 use Rattle.words.specs.Parts.{part_of}

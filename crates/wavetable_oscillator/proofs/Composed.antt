@@ -1,6 +1,6 @@
 -- A block in stages is the block frame by frame: at each frame, what a stage leaves is what the definition has from the state before that frame.
 use Rattle.std.proofs.Common.{◌≡◌, refl, sym, ap, ◌∙◌, false, List, ℕ, zero, suc, ◌+◌, ◌*◌, ◌≤◌, ◌<◌, mul-le-mul_right, arith, ℤ, pos, length, get_or, Float}
-use lib.Ieee.{to_bits}
+use Rattle.std.specs.Float.Ieee.{to_bits}
 use Rattle.std.specs.Float.{nan, binary32}
 use Rattle.words.specs.Binary32.{◌⊗◌, decimal}
 use Rattle.words.specs.Parts.{part_of}

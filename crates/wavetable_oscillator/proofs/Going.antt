@@ -1,11 +1,10 @@
 -- The three loops that carry something go on: what they carry and the lists that they fill are those of one more frame.
-use Rattle.std.proofs.Common.{◌≡◌, refl, ap, ◌∙◌, subst, Bool, true, false, ◌||◌, List, ℕ, suc, ◌+◌, ◌<◌, add-one, length, set, Float}
+use Rattle.std.proofs.Common.{◌≡◌, refl, ap, subst, false, List, ℕ, suc, ◌+◌, ◌<◌, add-one, length, set, Float}
 use Rattle.std.specs.Float.{nan}
 use Rattle.words.specs.Binary32.{◌⊗◌}
 use Rattle.words.specs.Parts.{part_of}
 use Rattle.words.specs.declared.Part.{Part}
-use Rattle.std.specs.Int.{from_bool}
-use Rattle.utils.specs.Holds.{of_frame, plus, AtMost}
+use Rattle.utils.specs.Holds.{none, of_frame, plus, AtMost}
 use Rattle.utils.specs.Frames.{state_after, sum_of}
 use Rattle.utils.specs.declared.holds.Holds.{Holds}
 use Rattle.utils.proofs.Sums.{most_none, most_frame, most_plus}
@@ -71,18 +70,6 @@ module _ (start : Positions) (phases₀ waveforms₀ cutoffs₀ amplitudes₀ : 
 
 -- ---- the parts
 
--- the three numbers that count frames, as their holds
-abbrev pub holds_by : ℕ → ℕ → ℕ → Holds
-holds_by held phases waveforms = record { held = held; phase = phases; wave_position = waveforms; level = 0; map = 0; bank = 0 }
-
-counted : (held phases waveforms : ℕ) (p w : Bool)
-    → holds_by (held + from_bool (p || w)) (phases + from_bool p) (waveforms + from_bool w) ≡ plus (holds_by held phases waveforms) (of_frame p w false)
-unfolding plus of_frame
-counted held phases waveforms true true = refl
-counted held phases waveforms true false = refl
-counted held phases waveforms false true = refl
-counted held phases waveforms false false = refl
-
 pub record Parting (phases₀ waveforms₀ : List Float) (keys₀ : List ℕ) (phases waveforms : List Float) (keys : List ℕ) (holds : Holds) (i : ℕ) : Type 0 where
   pub few : AtMost i holds
   pub holds_are : holds ≡ sum_of suc (λ j. holds_of (part_at waveform_top waveforms₀ j) (part_at phase_top phases₀ j)) i 0
@@ -91,7 +78,7 @@ pub record Parting (phases₀ waveforms₀ : List Float) (keys₀ : List ℕ) (p
   pub waveforms_are : Filling (λ j. (part_at waveform_top waveforms₀ j).fraction) nan waveforms₀ waveforms i
 
 module _ (phases₀ waveforms₀ : List Float) (keys₀ : List ℕ) where
-  pub part_begins : Parting phases₀ waveforms₀ keys₀ phases₀ waveforms₀ keys₀ (holds_by 0 0 0) 0
+  pub part_begins : Parting phases₀ waveforms₀ keys₀ phases₀ waveforms₀ keys₀ none 0
   part_begins =
       record {
         few = most_none 0;
@@ -101,7 +88,7 @@ module _ (phases₀ waveforms₀ : List Float) (keys₀ : List ℕ) where
         waveforms_are = filling_none _ _ waveforms₀;
       }
 
-  module _ (phases waveforms : List Float) (keys : List ℕ) (held held_phases held_waveforms i : ℕ) where
+  module _ (phases waveforms : List Float) (keys : List ℕ) (holds : Holds) (i : ℕ) where
     -- the parts of the frame that comes
     abbrev waveform : Part
     waveform = part_at waveform_top waveforms i
@@ -110,16 +97,15 @@ module _ (phases₀ waveforms₀ : List Float) (keys₀ : List ℕ) where
     phase = part_at phase_top phases i
 
     pub part_goes_on : i < length phases₀ → i < length waveforms₀ → i < length keys₀
-        → Parting phases₀ waveforms₀ keys₀ phases waveforms keys (holds_by held held_phases held_waveforms) i
+        → Parting phases₀ waveforms₀ keys₀ phases waveforms keys holds i
         → Parting phases₀ waveforms₀ keys₀ (set phases i phase.fraction) (set waveforms i waveform.fraction) (set keys i (key_of waveform phase))
-        (holds_by (held + from_bool (phase.held || waveform.held)) (held_phases + from_bool phase.held) (held_waveforms + from_bool waveform.held)) (i + 1)
+        (plus holds (of_frame phase.held waveform.held false)) (i + 1)
     part_goes_on hp hw hk g =
         let p : phase ≡ part_at phase_top phases₀ i = ap (part_of phase_top) (filling_next _ _ phases₀ phases i g.phases_are) in
         let w : waveform ≡ part_at waveform_top waveforms₀ i = ap (part_of waveform_top) (filling_next _ _ waveforms₀ waveforms i g.waveforms_are) in
-        let c = counted held held_phases held_waveforms phase.held waveform.held in
         record {
-          few = rw c (most_plus g.few (most_frame phase.held waveform.held false));
-          holds_are = c ∙ count_more _ _ _ i g.holds_are (rw (w, p));
+          few = most_plus g.few (most_frame phase.held waveform.held false);
+          holds_are = count_more _ _ _ i g.holds_are (rw (w, p));
           keys_are = filling_more _ _ keys₀ keys i _ hk (rw (w, p)) g.keys_are;
           phases_are = filling_more _ _ phases₀ phases i _ hp (ap (λ (q : Part). q.fraction) p) g.phases_are;
           waveforms_are = filling_more _ _ waveforms₀ waveforms i _ hw (ap (λ (q : Part). q.fraction) w) g.waveforms_are;

@@ -53,7 +53,8 @@ impl Positions {
     }
 }
 
-// The positions of `size` frames: the phase in samples of a wave, the waveform, the filters' coefficient and the amplitude of each. Each goes into an array of its own, since the loops that read them vectorise.
+// The positions of `size` frames: the phase in samples of a wave, the waveform, the filters' coefficient and the amplitude of each. Each goes into
+// an array of its own, so that a loop reads entries that lie side by side.
 pub fn walk(
     start: Positions,
     size: usize,
@@ -94,31 +95,19 @@ pub fn part_all(
     requires { size ≤ most_frames }
     ensures { PartedBy phases.old waveforms.old size result phases.new waveforms.new keys.new }
 {
-    // The counts are u32: counts of 64 bits, as Holds has them, make the loop slower.
-    let mut held = 0;
-    let mut held_phases = 0;
-    let mut held_waveforms = 0;
+    let mut holds = Holds::default();
     for i in 0..size {
         let w = words::held_part(waveforms[i], crate::WavetableOscillator::WAVEFORM_TOP);
         let p = words::held_part(phases[i], crate::WavetableOscillator::PHASE_TOP);
         keys[i] = key(w.whole, p.whole);
         waveforms[i] = w.fraction;
         phases[i] = p.fraction;
-        held += u32::from(p.held | w.held);
-        held_phases += u32::from(p.held);
-        held_waveforms += u32::from(w.held);
+        holds = holds.and_frame(p.held, w.held, false);
     }
-    Holds {
-        held: held as usize,
-        phase: held_phases as usize,
-        wave_position: held_waveforms as usize,
-        level: 0,
-        map: 0,
-        bank: 0,
-    }
+    holds
 }
 
-// A frame's reading: two waves at a phase, and between them by the waveform's fraction.
+// A frame's reading: two waves at a phase, and between them by the waveform's fraction, written out as the source has it.
 #[tactic(auto, unfolding(words::specs::Binary32::of_bits, words::specs::Binary32::decimal, crate::specs::Stages::reading_at))]
 fn read(bank: &[i16; BANK_LENGTH], key: usize, p_fractional: f32, waveform_fractional: f32) -> f32
     requires { key ≤ waveform_top * wave_length + phase_top }
@@ -144,7 +133,7 @@ impl Filters {
     }
 }
 
-// The readings of `size` frames, filtered.
+// The readings of `size` frames, filtered. What a frame reads comes in the arrays that `walk` and `part_all` left.
 pub fn filter_all(
     start: Filters,
     bank: &[i16; BANK_LENGTH],
@@ -168,7 +157,7 @@ pub fn filter_all(
     f
 }
 
-// The samples as words: added to an out of zero. And an aux of zeros.
+// The samples as words, each added to an out of 0, and an aux of zeros.
 pub fn words_all(
     amplitudes: &[f32; RUN_LENGTH],
     lps: &[f32; CORNERS_LENGTH],

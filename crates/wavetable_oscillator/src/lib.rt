@@ -64,7 +64,7 @@ fn targets_of(parameters: EngineParameters, ratios: &PitchRatios) -> Targets
 }
 
 impl WavetableOscillator {
-    // The highest whole parts of its positions.
+    // The highest whole parts of its positions, as constants of the voice's type: document 01 has tops so.
     pub const WAVEFORM_TOP: usize = NUM_WAVES - 2;
 
     pub const PHASE_TOP: usize = oscillator::bank::PHASE_TOP;
@@ -108,13 +108,14 @@ impl WavetableOscillator {
         }
     }
 
-    // A block: one sample into each place of `out`, and zeros into `aux`. The pitch tables and the arrays to work in are lent.
+    // A block: one sample into each place of `out`, and zeros into `aux`. The pitch tables and the arrays to work in are lent. The bank is a slice,
+    // as the C interface lends it; the stages take it as an array.
     pub fn render(
         self,
         parameters: EngineParameters,
         bank: &[i16],
         ratios: &PitchRatios,
-        work: &mut Workspace,
+        work: Workspace<'_>,
         out: &mut [u32],
         aux: &mut [u32],
     ) -> Block<WavetableOscillator>
@@ -123,36 +124,27 @@ impl WavetableOscillator {
         ensures { Renders (rendered bank.now ratios.now.high ratios.now.low (length out.old) parameters self)
             (length out.old) result.state result.holds out.new aux.new }
     {
-        // The runs hold phases, waveforms, coefficients and amplitudes, the corners the filtered readings.
+        let Workspace {
+            keys,
+            run_1: phases,
+            run_2: waveforms,
+            run_3: cutoffs,
+            run_4: amplitudes,
+            corners: lps,
+        } = work;
         let bank = <&[i16; BANK_LENGTH]>::try_from(bank).unwrap();
         let size = out.len();
         let targets = targets_of(parameters, ratios);
         let start = self.begin(targets, size);
-        let end = frames::walk(
-            start,
-            size,
-            &mut work.run_1,
-            &mut work.run_2,
-            &mut work.run_3,
-            &mut work.run_4,
-        );
-        let holds = frames::part_all(size, &mut work.run_1, &mut work.run_2, &mut work.keys);
+        let end = frames::walk(start, size, phases, waveforms, cutoffs, amplitudes);
+        let holds = frames::part_all(size, phases, waveforms, keys);
         let differentiator = self.differentiator;
         let filters = frames::Filters {
             lp: self.lp,
             differentiator,
         };
-        let last = frames::filter_all(
-            filters,
-            bank,
-            size,
-            &work.keys,
-            &work.run_1,
-            &work.run_2,
-            &work.run_3,
-            &mut work.corners,
-        );
-        frames::words_all(&work.run_4, &work.corners, out, aux);
+        let last = frames::filter_all(filters, bank, size, keys, phases, waveforms, cutoffs, lps);
+        frames::words_all(amplitudes, lps, out, aux);
         let differentiator_after = last.differentiator;
         Block {
             state: WavetableOscillator {

@@ -2,9 +2,9 @@
 use Rattle.std.proofs.Common.{◌≡◌, refl, sym, ap, ◌∙◌, subst, Bool, true, false, not, ◌||◌, cond, ℕ, zero, suc, ◌+◌, ◌-◌, ◌*◌, ◌/◌, ◌%◌, ◌^◌, ◌≤◌, ◌<◌, min, le_trans, le_of_eq, lt_of_lt_of_le, mul-one, mul_assoc, mul-le-mul_right, div-one, div-lt_iff_lt-mul, le-div_iff_mul-le, mod-lt, arith, ltb-true, ltb-false, leb-true, leb-false, eq-eqb, ne_eqb, T, leb, ltb, eqb, lit<, lit≤, pos, neg_ℤ, pow-add, pow_pos, pow_mono, shl_lt, Float}
 use Rattle.std.proofs.Math.Nat.{min-eq_left, min-eq_right}
 use Rattle.std.specs.Float.Ieee.{nan, inf, binary32, fits, of_fields, of_bits, to_bits, of_int, to_unsigned, to_signed}
-use lib.Ieee.Bits.{of_bits-to_bits, to_bits-lt}
-use lib.Ieee.Exact.{HasValue, odd_sign}
-use lib.Ieee.Nearest.{div_same}
+use Rattle.std.specs.Float.Ieee.Bits.{of_bits-to_bits, to_bits-lt}
+use Rattle.std.specs.Float.Ieee.Exact.{HasValue, odd_sign}
+use Rattle.std.specs.Float.Ieee.Nearest.{div_same}
 use Rattle.words.specs.Binary32.{◌⊖◌, of_count}
 use Rattle.words.specs.Parts.{part_of}
 use Rattle.words.specs.Fields.{sign_of, biased_exponent, trailing_significand, whole_magnitude, unsigned_whole, signed_whole, ByFields, EveryWord, EveryFloat}

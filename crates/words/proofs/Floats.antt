@@ -1,8 +1,8 @@
 -- What a test of a float or of a word says: which floats and which words are a NaN's.
-use Rattle.std.proofs.Common.{◌≡◌, refl, sym, ap, ◌∙◌, subst, Bool, true, false, not, cond, true≢false, ℕ, zero, suc, ◌+◌, ◌/◌, ◌%◌, ◌≤◌, ◌<◌, lt-ltb, le-ltb, ltb-false, leb-false, mod-eq_of_lt, T, leb, eqb, ℤ, Float}
+use Rattle.std.proofs.Common.{◌≡◌, refl, sym, ap, ◌∙◌, subst, Bool, true, false, not, cond, true≢false, ℕ, zero, suc, ◌+◌, ◌/◌, ◌%◌, ◌≤◌, ◌<◌, ltb-false, leb-false, mod-eq_of_lt, T, leb, eqb, ℤ, Float}
 use Rattle.std.proofs.Math.Bool.{false≢true}
 use Rattle.std.specs.Float.Ieee.{nan, inf, fin, binary32, lt, is_nan, odd, of_fields, of_bits, to_bits, nan_bits, fits}
-use lib.Ieee.Bits.{nan_bits_above, nan_bits_is, of_bits-to_bits, is_false}
+use Rattle.std.specs.Float.Ieee.Bits.{nan_bits_above, nan_bits_is, of_bits-to_bits, is_false}
 
 -- a float above another is no NaN
 pub above_no_nan : (y x : Float) → lt y x ≡ true → T (not (is_nan x))
@@ -12,28 +12,6 @@ above_no_nan (inf s) nan e = absurd (false≢true e)
 above_no_nan (fin s m k) nan e = absurd (false≢true e)
 above_no_nan y (inf s) e = tt
 above_no_nan y (fin s m k) e = tt
-
--- the word of NaN
-pub nan_word : (x : Float) → is_nan x ≡ true → 0x7fc00000 ≡ to_bits binary32 x
-unfolding is_nan to_bits
-nan_word nan e = refl
-nan_word (inf s) e = absurd (false≢true e)
-nan_word (fin s m k) e = absurd (false≢true e)
-
--- with the sign's bit dropped, a word up to an infinity's is no NaN's
-pub no_nan_bits : (w : ℕ) → w % 2147483648 ≤ 2139095040 → T (not (nan_bits binary32 w))
-no_nan_bits w h = subst (λ (b : Bool). T (not b)) (sym (nan_bits_above binary32 w ∙ le-ltb 2139095040 (w % 2147483648) h)) tt
-
--- a float of which it holds is NaN
-pub nan_is : (x : Float) → is_nan x ≡ true → x ≡ nan
-unfolding is_nan
-nan_is nan e = refl
-nan_is (inf s) e = absurd (false≢true e)
-nan_is (fin s m k) e = absurd (false≢true e)
-
--- and one above it is
-pub nan_of : (w : ℕ) → 2139095040 < w % 2147483648 → of_bits binary32 w ≡ nan
-nan_of w h = nan_is (of_bits binary32 w) (sym (nan_bits_is binary32 w) ∙ nan_bits_above binary32 w ∙ lt-ltb 2139095040 (w % 2147483648) h)
 
 of_minus : (b : ℕ) → leb 2147483648 b ≡ true → of_bits binary32 b ≡ of_fields binary32 true (b % 2147483648 / 8388608) (b % 8388608)
 unfolding of_bits

@@ -2,8 +2,6 @@
 pub mod Floats
 pub mod Words
 pub mod WholeParts
-pub mod Rounding
-pub mod Signs
 pub mod Parts
 pub mod Values
 pub mod HeldWhole

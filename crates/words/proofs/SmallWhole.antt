@@ -1,10 +1,10 @@
 -- A float from a half to below 2 ^ 23: its word is the biased exponent and the trailing significand alone, and the shift is from 1 to 24.
-use Rattle.std.proofs.Common.{◌≡◌, refl, sym, ap, ◌∙◌, subst, Bool, true, false, cond, ℕ, zero, suc, ◌+◌, ◌-◌, ◌*◌, ◌/◌, ◌%◌, ◌^◌, ◌≤◌, ◌<◌, min, le_of_suc-le-suc, mul_comm, mul_right_comm, mul-lt-mul_of_pos_right, lt_of_not-le, not-le_of_lt, le_of_mul-le-mul_right, lt_of_mul-lt-mul_right, le_trans, le_of_eq, le_of_lt, lt_of_lt_of_le, mul-le-mul_right, div-lt_iff_lt-mul, mod-lt, arith, ltb-true, ltb-false, leb-false, T, leb, ltb, eqb, lit<, lit≤, pow_pos, Float}
+use Rattle.std.proofs.Common.{◌≡◌, refl, sym, ap, ◌∙◌, subst, Bool, true, false, not, cond, ℕ, zero, suc, ◌+◌, ◌-◌, ◌*◌, ◌/◌, ◌%◌, ◌^◌, ◌≤◌, ◌<◌, min, le_of_suc-le-suc, mul_comm, mul_right_comm, mul-lt-mul_of_pos_right, lt_of_not-le, not-le_of_lt, le_of_mul-le-mul_right, lt_of_mul-lt-mul_right, le_trans, le_of_eq, le_of_lt, lt_of_lt_of_le, mul-le-mul_right, div-lt_iff_lt-mul, mod-lt, arith, ltb-true, ltb-false, leb-false, T, leb, ltb, eqb, lit<, lit≤, pow_pos, Float}
 use Rattle.std.proofs.Math.Nat.{eq_of_mul-eq-mul_right, min-eq_left}
-use Rattle.std.specs.Float.Ieee.{nan, inf, fin, binary32, up, down, fits, of_fields, of_bits, to_bits, to_unsigned}
-use lib.Ieee.Bits.{of_bits-to_bits}
-use lib.Ieee.Fits.{down_pos}
-use lib.Ieee.Exact.{HasValue}
+use Rattle.std.specs.Float.Ieee.{nan, inf, fin, binary32, up, down, fits, is_nan, of_fields, of_bits, to_bits, to_unsigned}
+use Rattle.std.specs.Float.Ieee.Bits.{of_bits-to_bits}
+use Rattle.std.specs.Float.Ieee.Fits.{down_pos}
+use Rattle.std.specs.Float.Ieee.Exact.{HasValue}
 use Rattle.words.specs.Inner.{Small}
 use Rattle.words.proofs.Values.{own}
 use Rattle.words.proofs.WholeParts.{whole_at}
@@ -89,3 +89,7 @@ small_whole y f s =
     let p : e ≡ w / 8388608 = plain_exponent w (leb-false 2147483648 w r.0) in
     subst (λ (n : ℕ). (126 ≤ n) × (n ≤ 149) × ((8388608 + w % 8388608) / 2 ^ (150 - n) ≡ to_unsigned 64 y)) p
     (r.1, r.2, r.3 ∙ ap (to_unsigned 64) o)
+
+pub small_no_nan : (y : Float) → Small y → T (not (is_nan y))
+unfolding is_nan
+small_no_nan y s = subst (λ (x : Float). T (not (is_nan x))) (sym s.is) tt

@@ -2,11 +2,11 @@
 use Rattle.std.proofs.Common.{◌≡◌, refl, sym, ap, ◌∙◌, Bool, true, false, cond, ℕ, ◌+◌, ◌-◌, ◌*◌, ◌/◌, ◌%◌, ◌≤◌, ◌<◌, mul_comm, mul_left_comm, mul-one, mul-add, mul-pos, lt_of_not-le, not-le_of_lt, div-add-mod', arith, le-ltb, lt-ltb, lit<, ℤ, Float}
 use Rattle.std.proofs.Math.Nat.{mul-sub, mul-mul-mul_comm}
 use Rattle.std.specs.Float.Ieee.{nan, inf, fin, binary32, up, down, lt, sum, add, sub, mul, round, of_int}
-use lib.Ieee.Fits.{down_pos}
-use lib.Ieee.Exact.{HasValue}
-use lib.Ieee.Scale.{round_same}
-use lib.Ieee.Back.{round_whole}
-use lib.Ieee.Order.{transfer}
+use Rattle.std.specs.Float.Ieee.Fits.{down_pos}
+use Rattle.std.specs.Float.Ieee.Exact.{HasValue}
+use Rattle.std.specs.Float.Ieee.Scale.{round_same}
+use Rattle.std.specs.Float.Ieee.Back.{round_whole}
+use Rattle.std.specs.Float.Ieee.Order.{transfer}
 use Rattle.words.specs.Binary32.{◌⊕◌, ◌⊖◌, ◌⊗◌, of_count}
 
 -- a float is its own value

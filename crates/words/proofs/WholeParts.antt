@@ -5,9 +5,10 @@ use Rattle.std.proofs.Math.Nat.{min-le_left, min-eq_right, min-eq_left, zero-min
 use Rattle.std.proofs.Math.IntN.{+ℤ_idl}
 use Rattle.std.proofs.Math.Facts.{to_z_pos}
 use Rattle.std.specs.Float.Ieee.{nan, inf, fin, up, down, lt, neg, binary32, of_bits, to_unsigned, to_signed}
-use lib.Ieee.Fits.{down_pos}
-use lib.Ieee.Nearest.{div_same}
-use lib.Ieee.Exact.{HasValue}
+use Rattle.std.specs.Float.{float_with_sign}
+use Rattle.std.specs.Float.Ieee.Fits.{down_pos}
+use Rattle.std.specs.Float.Ieee.Nearest.{div_same}
+use Rattle.std.specs.Float.Ieee.Exact.{HasValue}
 
 -- of a float that is a / c in size, with the sign s
 pub unsigned_at : (w : ℕ) (x : Float) (s : Bool) (a c : ℕ) → 0 < c → HasValue x s a c → to_unsigned w x ≡ cond s 0 (min (a / c) (2 ^ w - 1))
@@ -83,12 +84,32 @@ whole_below (fin false m e) h =
     le_trans (min-le_left (m * up e / down e) 18446744073709551615) (omega arith)
 
 -- ---- as an i32, of a float below 2 ^ 23 in size
-pub signed_small : (x : Float) (n : ℕ) → n ≡ to_unsigned 64 (cond (lt x (of_bits binary32 0)) (neg x) x) → lt (cond (lt x (of_bits binary32 0)) (neg x) x) (fin false 1 (pos 23)) ≡ true
+size_up : (x : Float) → lt x (fin false 0 (pos 0)) ≡ false → to_unsigned 64 (float_with_sign false x) ≡ to_unsigned 64 x
+unfolding lt to_unsigned float_with_sign
+size_up nan h = refl
+size_up (inf true) h = absurd (true≢false h)
+size_up (inf false) h = refl
+size_up (fin true m e) h =
+    let z : m * up e ≡ 0 = omega (arith, ltb-false 0 (m * up e * 1 + 0 * down e) h) in
+    rw (z, zero-div, zero-min)
+size_up (fin false m e) h = refl
+
+size_down : (x : Float) → lt x (fin false 0 (pos 0)) ≡ true → float_with_sign false x ≡ neg x
+unfolding lt neg float_with_sign
+size_down nan h = refl
+size_down (inf true) h = refl
+size_down (inf false) h = absurd (false≢true h)
+size_down (fin true m e) h = refl
+size_down (fin false m e) h = absurd (omega (arith, ltb-true (m * up e * 1) (0 * down e) h))
+
+pub signed_small : (x : Float) (n : ℕ) → n ≡ to_unsigned 64 (float_with_sign false x) → lt (float_with_sign false x) (fin false 1 (pos 23)) ≡ true
     → cond (lt x (of_bits binary32 0)) (neg_ℤ (pos n)) (pos n) ≡ to_signed 31 x
 unfolding of_bits
-signed_small x n = go (lt x (fin false 0 (pos 0))) refl
+signed_small x n e l = go (lt x (fin false 0 (pos 0))) refl
   where
-    go : (b : Bool) → lt x (fin false 0 (pos 0)) ≡ b → n ≡ to_unsigned 64 (cond b (neg x) x) → lt (cond b (neg x) x) (fin false 1 (pos 23)) ≡ true
-        → cond b (neg_ℤ (pos n)) (pos n) ≡ to_signed 31 x
-    go true h e l = sym (signed_down x h ∙ ap (λ (y : ℕ). neg_ℤ (pos y)) (min-eq_left (le_trans (whole_below (neg x) l) (lit≤ tt)) ∙ sym e))
-    go false h e l = sym (signed_up x h ∙ ap pos (min-eq_left (le_trans (whole_below x l) (lit≤ tt)) ∙ sym e))
+    below : (top : ℕ) → 8388607 ≤ top → min (to_unsigned 64 (float_with_sign false x)) top ≡ n
+    below top k = min-eq_left (le_trans (whole_below (float_with_sign false x) l) k) ∙ sym e
+
+    go : (b : Bool) → lt x (fin false 0 (pos 0)) ≡ b → cond b (neg_ℤ (pos n)) (pos n) ≡ to_signed 31 x
+    go true h = sym (signed_down x h ∙ ap (λ (y : Float). neg_ℤ (pos (min (to_unsigned 64 y) 2147483648))) (sym (size_down x h)) ∙ ap (λ (k : ℕ). neg_ℤ (pos k)) (below 2147483648 (lit≤ tt)))
+    go false h = sym (signed_up x h ∙ ap (λ (k : ℕ). pos (min k 2147483647)) (sym (size_up x h)) ∙ ap pos (below 2147483647 (lit≤ tt)))

@@ -1,7 +1,7 @@
 -- Lines of words without a capital letter, in row order, are written as they stood; and every line that passes has its LF.
 use Rattle.std.proofs.Common.{◌≡◌, refl, ap, ◌∙◌, true, List, [], ◌∷◌, map, ℕ, suc, eqb-true, eqb, length, take_at, drop_at, Ok}
-use mathlib.Core.Bool.{false≢true}
-use lib.ListN.{length-map}
+use Rattle.std.proofs.lemmas.Bool.{false≢true}
+use Rattle.std.proofs.Math.ListN.{length-map}
 use Rattle.score.specs.Rows.{row_words}
 use Rattle.text.specs.Text.{Line, ended, unended, contents, fields_of, first_of, rest_of, is_word, each_word, word_of, field_of, no_capital}
 use Rattle.names.specs.declared.Source.{Source}

@@ -1,6 +1,6 @@
 -- A text as the definitions write it, and what they refuse: each fact is a computation.
 use Rattle.std.proofs.Common.{◌≡◌, refl, List, [], ◌∷◌, ◌++◌, ℕ, replicate, Ok, Err}
-use lib.Ieee.{of_bits, le}
+use Rattle.std.specs.Float.Ieee.{of_bits, le}
 use Rattle.words.specs.Binary32.{decimal}
 use Rattle.score.specs.declared.refusal.Refusal.TheVariants.{Rows, Limit, Paper}
 use Rattle.score.specs.Limits.{float_to, limit, row_within, first_bad, bad_refusal, limit_refusal}

@@ -1,6 +1,6 @@
 -- The words of a text that was read have 32 bits: each stands in a column, as eight digits.
 use Rattle.std.proofs.Common.{◌≡◌, refl, true, List, [], ◌∷◌, ◌++◌, ℕ, zero, suc, ◌^◌, ◌<◌, arith, eqb-true, ltb-true, eqb, length, get_or, Ok, Option, Some, None}
-use mathlib.Core.Bool.{false≢true}
+use Rattle.std.proofs.lemmas.Bool.{false≢true}
 use Rattle.text.specs.Text.{column_of, Line, ended, unended, contents, fields_of, lines_of, first_of, rest_of, is_word, each_word}
 use Rattle.names.specs.declared.Source.TheVariants.{Column, Missing}
 use Rattle.names.specs.Sources.{Entry, source_at, source_of, sources_of, readable, each_readable, holds_names}

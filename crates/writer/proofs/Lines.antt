@@ -1,6 +1,6 @@
 -- Lines as they are written, from the front: a word and the byte after it, then what follows; a row's line, then the others; and their lengths.
-use Rattle.std.proofs.Common.{◌≡◌, refl, sym, ap, ◌∙◌, List, [], ◌∷◌, ◌++◌, map, append_assoc, ℕ, zero, suc, ◌+◌, ◌-◌, ◌*◌, ◌≤◌, ◌<◌, suc-mul, add-one, arith, length, get_or, take, drop, set, length-append, length-drop, drop_of_length-le, drop-cons, drop-drop, length-take-le}
-use lib.Seq.{set_at}
+use Rattle.std.proofs.Common.{◌≡◌, refl, sym, ap, ◌∙◌, List, [], ◌∷◌, ◌++◌, map, append-nil, append_assoc, ℕ, zero, suc, ◌+◌, ◌-◌, ◌*◌, ◌≤◌, ◌<◌, suc-mul, add-one, arith, length, get_or, take, drop, set, length-append, length-drop, drop_of_length-le, drop-cons, drop-drop, length-take-le}
+use Rattle.std.proofs.Math.Seq.{set_at}
 use Rattle.score.specs.Rows.{row_words}
 use Rattle.text.specs.Text.{bytes, lf, space, joined, line_of, text_of, field_of}
 use Rattle.text.proofs.LowerDigits.{field_long}
@@ -18,22 +18,30 @@ then_put n text field after h e =
     drop-cons text n 0 (omega arith) ∙ ap (λ (z : List ℕ). get_or text n 0 ∷ z) (drop_of_length-le text {i = suc n} (omega arith)) in
     rw d (set_at field (get_or text n 0) [] after n e)
 
--- ---- the line of some words, from word k on
+-- ---- the line of some words, from word k on: none is left of it once all words stand there
+abbrev pub words_left : List ℕ → List ℕ
+words_left [] = []
+words_left (w ∷ []) = field_of w ++ lf ∷ []
+words_left (w ∷ v ∷ ws) = (field_of w ++ space ∷ []) ++ words_left (v ∷ ws)
+
+pub whole_line : (row : List ℕ) → 0 < length row → words_left row ≡ line_of (map field_of row)
+unfolding joined
+whole_line [] h = absurd (omega arith)
+whole_line (w ∷ []) h = refl
+whole_line (w ∷ v ∷ ws) h = ap (λ (z : List ℕ). (field_of w ++ space ∷ []) ++ z) (whole_line (v ∷ ws) (omega arith)) ∙ append_assoc (field_of w) (space ∷ []) _ ∙ sym (append_assoc (field_of w) _ _)
+
 module _ (row : List ℕ) where
   abbrev pub line_from : ℕ → List ℕ
-  line_from k = line_of (map field_of (drop k row))
-
-  joined_more : (w v : ℕ) (ws : List ℕ) → line_of (map field_of (w ∷ v ∷ ws)) ≡ (field_of w ++ space ∷ []) ++ line_of (map field_of (v ∷ ws))
-  unfolding joined
-  joined_more w v ws = append_assoc (field_of w) _ _ ∙ sym (append_assoc (field_of w) (space ∷ []) _)
+  line_from k = words_left (drop k row)
 
   pub line_more : (k : ℕ) → k + 1 < length row → line_from k ≡ (field_of (get_or row k 0) ++ space ∷ []) ++ line_from (k + 1)
-  line_more k h =
-      rw (add-one, drop-cons row k 0 (omega arith), drop-cons row (suc k) 0 (omega arith)) (joined_more (get_or row k 0) (get_or row (suc k) 0) (drop (suc (suc k)) row))
+  line_more k h = rw (add-one, drop-cons row k 0 (omega arith), drop-cons row (suc k) 0 (omega arith)) refl
 
-  pub line_last : (k : ℕ) → k + 1 ≡ length row → line_from k ≡ field_of (get_or row k 0) ++ lf ∷ []
-  unfolding joined
-  line_last k h = rw (drop-cons row k 0 (omega arith), drop_of_length-le row {i = suc k} (omega arith))
+  pub line_last : (k : ℕ) → k + 1 ≡ length row → line_from k ≡ (field_of (get_or row k 0) ++ lf ∷ []) ++ line_from (k + 1)
+  line_last k h = rw (add-one, drop-cons row k 0 (omega arith), drop_of_length-le row {i = suc k} (omega arith)) (sym (append-nil _))
+
+  pub line_none : line_from (length row) ≡ []
+  line_none = rw (drop_of_length-le row {i = length row} (omega arith))
 
 pub line_long : (row : List ℕ) → 0 < length row → length (line_of (map field_of row)) ≡ length row * field_bytes
 unfolding joined

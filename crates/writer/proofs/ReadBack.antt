@@ -1,6 +1,6 @@
 -- A written text is read as what was written: its lines and fields are those that were put, and each word is read as itself.
 use Rattle.std.proofs.Common.{◌≡◌, refl, sym, ap, ◌∙◌, Bool, true, false, cond, true≢false, List, [], ◌∷◌, map, ℕ, zero, suc, ◌+◌, ◌*◌, ◌^◌, ◌≤◌, ◌<◌, suc-mul, arith, length, get_or, take, drop, length-drop, length-take-le, take-add, Ok, Option, Some, None, option_map, is_some}
-use lib.ListN.{length-map}
+use Rattle.std.proofs.Math.ListN.{length-map}
 use Rattle.lists.specs.Lists.{same}
 use Rattle.score.specs.Rows.{row_words}
 use Rattle.score.specs.Limits.{row_within, first_bad}

@@ -1,5 +1,5 @@
 -- Document 02, "A tidy writer": what reading and writing promise together.
-use Rattle.std.proofs.Common.{ℕ, ◌*◌, ◌^◌, ◌≤◌, ◌<◌, ◌≡◌, true, List, ◌++◌, length, get_or, take, drop, Ok}
+use Rattle.std.specs.Prelude.{ℕ, ◌*◌, ◌^◌, ◌≤◌, ◌<◌, ◌≡◌, true, List, ◌++◌, length, get_or, take, drop, Ok}
 use Rattle.score.specs.Rows.{row_words}
 use Rattle.text.specs.Text.{lines_of, first_of, contents, fields_of, no_capital}
 use Rattle.reader.specs.Reading.{score_table, text_rows, read_of}

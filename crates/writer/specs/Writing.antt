@@ -1,5 +1,5 @@
 -- Document 02, "A tidy writer": the text of a score, the refusals in their order, and what a call leaves.
-use Rattle.std.proofs.Common.{ℕ, zero, suc, ◌+◌, ◌*◌, cond, List, [], ◌∷◌, ◌++◌, map, length, take, drop, ltb, Result, Ok, Err}
+use Rattle.std.specs.Prelude.{ℕ, zero, suc, ◌+◌, ◌*◌, cond, List, [], ◌∷◌, ◌++◌, map, length, take, drop, ltb, Result, Ok, Err}
 use Rattle.std.specs.Result.{result_and}
 use Rattle.score.specs.declared.refusal.Refusal.{Refusal}
 use Rattle.score.specs.declared.refusal.Refusal.TheVariants.{Rows, Paper}

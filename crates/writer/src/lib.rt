@@ -1,7 +1,8 @@
-// Writing a score as a tidy text: the names in row order, lower-case digits.
+// Writing a score as a tidy text: the names in row order, lower-case digits. What is written goes into a slice of the bytes that it takes: an array
+// of them would be copied there once more.
 #![tactic(auto)]
 
-ghost use Rattle.std.specs.Prelude.{◌≡◌, [], ◌∷◌, ◌++◌, map, ◌*◌, ◌≤◌, ◌<◌, length};
+ghost use Rattle.std.specs.Prelude.{◌≡◌, [], ◌∷◌, ◌++◌, map, ◌*◌, ◌≤◌, length};
 ghost use Rattle.score.specs.Rows.{row_words, most_rows};
 ghost use Rattle.text.specs.Text.{line_of, text_of, field_of};
 ghost use Rattle.values.specs.Inner.{field_bytes};
@@ -9,12 +10,13 @@ ghost use Rattle.writer.specs.Writing.{names, row_lines, names_bytes, row_bytes,
 
 use score::limits::within_limits;
 use score::refusal::Refusal;
-use score::rows::{MOST_ROWS, ROW_WORDS, wrong_rows};
+use score::rows::{MOST_ROWS, ROW_WORDS, row_at, wrong_rows};
 use text::pieces::{LF, SPACE};
 use text::word::{WORD_DIGITS, put_word};
 use values::FIELD;
 
-// The line of names, in row order.
+// The line of names, in row order. The reader's table spells them too, and both are proved to be the names of one definition: made of the table,
+// the line would want a loop that goes from place to place, and its length beside it.
 const NAMES_LINE: [u8; 36] = *b"note timbre morph harmonics restart\n";
 
 // The bytes of a row's line.
@@ -33,24 +35,21 @@ fn put_field(word: u32, after: u8, text: &mut [u8])
     requires { length text.old ≡ field_bytes }
     ensures { text.new ≡ field_of word ++ after ∷ [] }
 {
-    put_word(word, &mut text[0..WORD_DIGITS]);
+    put_word(word, &mut text[..WORD_DIGITS]);
     text[WORD_DIGITS] = after;
 }
 
-// A row's line, in the place of as many bytes.
-fn put_line(row: &[u32], text: &mut [u8])
-    requires { (0 < length row.now) × (length text.old ≡ length row.now * field_bytes) }
-    ensures { text.new ≡ line_of (map field_of row.now) }
+// A row's line, in the place of as many bytes. Here and in `put_rows` by places: once `chunks_exact_mut` is over, a proof knows how long the text
+// is, and no byte of it.
+fn put_line(row: [u32; ROW_WORDS], text: &mut [u8])
+    requires { length text.old ≡ row_bytes }
+    ensures { text.new ≡ line_of (map field_of row) }
 {
-    let last = row.len() - 1;
-    for k in 0..last {
-        let a = k * FIELD;
-        let e = a + FIELD;
-        put_field(row[k], SPACE, &mut text[a..e]);
+    for k in 0..ROW_WORDS {
+        let after = if k + 1 < ROW_WORDS { SPACE } else { LF };
+        let at = k * FIELD;
+        put_field(row[k], after, &mut text[at..at + FIELD]);
     }
-    let a = last * FIELD;
-    let e = a + FIELD;
-    put_field(row[last], LF, &mut text[a..e]);
 }
 
 // The lines of the first `count` rows, in the place of as many bytes.
@@ -59,11 +58,8 @@ fn put_rows(rows: &[u32], count: usize, text: &mut [u8])
     ensures { text.new ≡ text_of (row_lines count rows.now) }
 {
     for k in 0..count {
-        let a = k * ROW_WORDS;
-        let e = a + ROW_WORDS;
-        let b = k * ROW_LINE;
-        let f = b + ROW_LINE;
-        put_line(&rows[a..e], &mut text[b..f]);
+        let at = k * ROW_LINE;
+        put_line(row_at(rows, k), &mut text[at..at + ROW_LINE]);
     }
 }
 
@@ -89,7 +85,7 @@ fn write_refusal(rows: &[u32], count: usize, text: &[u8]) -> Result<(), Refusal>
     Ok(())
 }
 
-// Writes the first `count` rows as a score's text.
+// Writes the first `count` rows as a score's text: rows and count as the C interface lends them.
 pub fn write(rows: &[u32], count: usize, text: &mut [u8]) -> Result<usize, Refusal>
     ensures { outcome result text.new ≡ write_of count rows.now text.old }
 {

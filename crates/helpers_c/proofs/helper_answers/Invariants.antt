@@ -2,5 +2,5 @@
 use Rattle.helpers_c.proofs.Answers.{Going}
 use Rattle.helpers_c.proofs.helper_answers.Given as goal
 
-abbrev pub invariant-loop-i : goal.invariant-loop-i
-invariant-loop-i l = Going l.which l.from l.answers l.w l.i
+abbrev pub invariant-loop-place : goal.invariant-loop-place
+invariant-loop-place l = Going l.which l.from l.answers l.w l.place-index

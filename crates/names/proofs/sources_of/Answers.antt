@@ -1,17 +1,14 @@
--- The sources so far.
-use Rattle.std.proofs.Common.{refl, sym, ◌∙◌, arith}
-use lib.ListN.{length-replicate}
+-- Each name's source.
+use Rattle.std.proofs.Common.{rules, tests, sym, ◌∙◌}
 use Rattle.std.proofs.lemmas.Simd.{map-map}
-use Rattle.names.specs.Sources.{sources_of}
-use Rattle.names.proofs.Mapped.{mapped_more, mapped_all}
+use Rattle.text.specs.Text.{fields_of}
+use Rattle.names.specs.Sources.{source_of, sources_of}
+use Rattle.names.specs.Inner.{entry_of}
+use Rattle.names.proofs.Mapped.{made_by}
 use Rattle.names.proofs.sources_of.Goals as goal
-
-pub loop-k-init : goal.loop-k-init
-loop-k-init g c = record { long = length-replicate _ _ ∙ sym c.requires; made = refl }
-
-pub loop-k-preserved : goal.loop-k-preserved
-loop-k-preserved g c = let l = c.loop-k in mapped_more _ _ _ _ l.invariant _ _ (omega arith) c.source_of.ensures
 
 pub returns : goal.returns
 unfolding sources_of
-returns g c = mapped_all _ _ _ _ c.loop-k.invariant (omega arith) ∙ sym (map-map _ _ c.args.table.now)
+returns g c =
+    let a = c.args in
+    made_by _ _ (λ e. source_of (fields_of a.line.now) (entry_of e)) a.table.now c.from_fn.result (λ k y q h b. search (rules, tests)) _ c.requires c.from_fn.ensures.items ∙ sym (map-map _ _ a.table.now)

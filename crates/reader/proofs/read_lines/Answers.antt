@@ -20,7 +20,7 @@ pub write_rows-requires : goal.write_rows-requires
 write_rows-requires c =
     let t = sym c.test_lines.ensures ∙ c.in_ok-lines.was in
     let n = sym c.test_count.ensures ∙ c.in_ok-test_count.was in
-    record { next_in_bounds = c.requires.next_in_bounds; text_value = passes_free _ _ _ _ _ _ t; lines_in_bounds = room _ _ _ _ n }
+    record { text_value = passes_free _ _ _ _ _ _ t; lines_in_bounds = room _ _ _ _ n }
 
 pub returns : goal.returns
 returns c =

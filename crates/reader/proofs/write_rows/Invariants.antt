@@ -3,4 +3,4 @@ use Rattle.reader.proofs.Storing.{Stored}
 use Rattle.reader.proofs.write_rows.Given as goal
 
 abbrev pub invariant-loop-k : goal.invariant-loop-k
-invariant-loop-k l = Stored l.layout.names l.width l.layout.sources.now l.text l.next l.lines l.initial.rows l.rows l.from l.base l.k
+invariant-loop-k l = Stored l.layout.names l.width l.layout.sources.now l.text l.rest l.lines l.initial.rows l.rows l.k

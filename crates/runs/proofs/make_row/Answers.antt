@@ -13,4 +13,4 @@ render-block-requires c =
 
 pub returns : goal.returns
 returns c =
-    makes _ _ _ _ _ _ _ _ _ _ _ c.requires.places.out_long c.start.ensures c.parameters.ensures c.render-block.ensures c.kept_words-kept.ensures
+    makes _ _ _ _ _ _ _ _ _ _ _ c.requires.places.out_long c.start.ensures c.parameters.ensures c.render-block.ensures c.kept_words-state.ensures

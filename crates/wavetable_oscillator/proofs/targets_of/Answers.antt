@@ -1,5 +1,5 @@
 -- `wavetable_oscillator::targets_of` meets its contract.
-use lib.Ieee.{of_bits, of_int, round}
+use Rattle.std.specs.Float.Ieee.{of_bits, of_int, round}
 use Rattle.words.specs.Binary32.{decimal}
 use Rattle.wavetable_oscillator.specs.Oscillator.{targets_of}
 use Rattle.wavetable_oscillator.proofs.targets_of.Goals as goal

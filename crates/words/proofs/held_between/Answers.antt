@@ -1,13 +1,13 @@
--- `words::held_between` meets its contract: raised to a half, x is below the top and a half or not.
-use Rattle.words.proofs.HeldWhole.{held_inside, held_outside}
+-- `words::held_between` meets its contract: raised to a half, x is not above the top and a half, or that is taken.
+use Rattle.std.proofs.Common.{ap, Float}
+use Rattle.std.specs.Float.Ieee.{of_bits, is_nan}
+use Rattle.words.specs.Binary32.{◌⊕◌, decimal}
+use Rattle.words.specs.Inner.{half}
+use Rattle.words.proofs.HeldWhole.{held_law}
 use Rattle.words.proofs.held_between.Goals as goal
 
-pub returns-then-y-bound : goal.returns-then-y-bound
-returns-then-y-bound c =
-    let h = held_inside _ _ _ _ c.requires.0 c.requires.1 c.at_least_half-y.ensures c.if-y-bound.true in
-    record { result_value = h.0; small = h.1 }
-
-pub returns-else-y-bound : goal.returns-else-y-bound
-returns-else-y-bound c =
-    let h = held_outside _ _ _ _ c.requires.0 c.requires.1 c.at_least_half-y.ensures c.if-y-bound.false in
+pub returns : goal.returns
+unfolding of_bits decimal is_nan
+returns c =
+    let h = held_law _ _ _ _ _ c.requires (ap (λ (x : Float). x ⊕ half) c.float_of_u64-bound.ensures) c.max.ensures.value (c.max.ensures.other_bound tt) c.min.ensures.value in
     record { result_value = h.0; small = h.1 }

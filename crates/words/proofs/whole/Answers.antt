@@ -1,6 +1,6 @@
 -- `words::whole` meets its contract: the equation by fields is the whole part (of_float).
 use Rattle.std.proofs.Common.{sym, ◌∙◌}
-use denote.Floats.{passes}
+use Rattle.std.specs.Bool.{passes}
 use Rattle.words.proofs.ByFields.{of_float}
 use Rattle.words.proofs.whole.Goals as goal
 

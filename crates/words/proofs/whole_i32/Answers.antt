@@ -1,8 +1,8 @@
 -- `words::whole_i32` meets its contract: the equation by fields is the whole part to i32 (of_float).
 use Rattle.std.proofs.Common.{◌≡◌, sym, ◌∙◌, w32, to_z-of_z}
 use Rattle.std.specs.Float.Ieee.{to_signed}
-use lib.Ieee.Casts.{to_signed_in}
-use denote.Floats.{passes}
+use Rattle.std.specs.Float.Ieee.Casts.{to_signed_in}
+use Rattle.std.specs.Bool.{passes}
 use Rattle.words.proofs.ByFields.{of_float}
 use Rattle.words.proofs.whole_i32.Goals as goal
 

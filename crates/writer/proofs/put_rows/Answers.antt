@@ -1,5 +1,5 @@
 -- `put_rows` puts the lines of the rows one behind the other (Filled).
-use Rattle.std.proofs.Common.{◌≡◌, sym, ap, ◌∙◌, List, ◌++◌, map, ℕ, ◌+◌, ◌-◌, ◌*◌, arith, rules, length, take, drop, length-drop}
+use Rattle.std.proofs.Common.{sym, ap, ◌∙◌, List, ◌++◌, map, ℕ, ◌+◌, ◌*◌, rules, arith, length, drop, length-drop}
 use Rattle.score.specs.Rows.{row_words}
 use Rattle.text.specs.Text.{line_of, field_of}
 use Rattle.lists.proofs.Filling.{fill_goes_on, fill_ends}
@@ -12,8 +12,7 @@ loop-k-preserved c =
     let a = c.args in
     let k = c.loop-k.k in
     let put = c.put_line in
-    let span : k * row_words + row_words - k * row_words ≡ row_words = omega arith in
-    let line = put.ensures ∙ ap (λ (n : ℕ). line_of (map field_of (take n (drop (k * row_words) a.rows.now)))) span in
+    let line = put.ensures ∙ ap (λ (row : List ℕ). line_of (map field_of row)) c.row_at.ensures in
     fill_goes_on row_bytes a.count (rows_from a.count a.rows.now) c.loop-k.text k (search rules) put.new.text
     (ap length line ∙ row_long (drop (k * row_words) a.rows.now) (omega (arith, length-drop (k * row_words) a.rows.now)))
     c.loop-k.invariant

@@ -3,11 +3,11 @@ use Rattle.std.proofs.Common.{rules, arith}
 use Rattle.retake_lib.proofs.Editing.{begins, goes_on, ends}
 use Rattle.retake_lib.proofs.playing.edit_all.Goals as goal
 
-pub loop-k-init : goal.loop-k-init
-loop-k-init c = (search rules, search rules, begins _ _ _ _ _)
+pub loop-words-init : goal.loop-words-init
+loop-words-init c = (search rules, search rules, begins _ _ _ _)
 
-pub loop-k-preserved : goal.loop-k-preserved
-loop-k-preserved c = (search rules, omega (arith, c.edit.ensures.len, c.loop-k.invariant.1), goes_on c.loop-k.invariant.2 c.edit.ensures.done)
+pub loop-words-preserved : goal.loop-words-preserved
+loop-words-preserved c = (search rules, omega (arith, c.edit.ensures.len, c.loop-words.invariant.1), goes_on c.loop-words.invariant.2 (search rules) c.edit.ensures.done)
 
 pub returns-clause-done : goal.returns-clause-done
-returns-clause-done c = ends c.loop-k.invariant.2 (search rules)
+returns-clause-done c = ends c.loop-words.invariant.2 (search rules)

@@ -7,8 +7,8 @@ use Rattle.outputs.specs.Lines.{most_line}
 use Rattle.retake_lib.proofs.Editing.{Left}
 use Rattle.retake_lib.proofs.playing.edit_all.Given as goal
 
-abbrev pub invariant-loop-k : goal.invariant-loop-k
-invariant-loop-k l =
+abbrev pub invariant-loop-words : goal.invariant-loop-words
+invariant-loop-words l =
     SamePlaces l.initial.take l.take
-    × (array_string_len l.printed ≤ array_string_len l.initial.printed + l.k * most_line)
-    × Left (setup_by l.patch) l.edits l.count (reel l.n l.initial.rows (words_of l.initial.take)) l.initial.printed.bytes (reel l.n l.rows (words_of l.take)) l.printed.bytes l.k
+    × (array_string_len l.printed ≤ array_string_len l.initial.printed + l.words-index * most_line)
+    × Left (setup_by l.patch) l.edits (reel l.n l.initial.rows (words_of l.initial.take)) l.initial.printed.bytes (reel l.n l.rows (words_of l.take)) l.printed.bytes l.words-index

@@ -1,6 +1,7 @@
 -- `retake_lib::playing::play_rows` meets its contract: what is lent is a take of n rows, all 0 (part_of_zeros).
 use Rattle.std.proofs.Common.{arith, ◌*◌}
 use Rattle.voice.specs.Voice.{kept_count}
+use Rattle.inputs.specs.Inputs.{most_rows}
 use Rattle.retake_lib.specs.Program.{frames}
 use Rattle.retake_lib.proofs.Outputs.{part_of_zeros, played_blank}
 use Rattle.retake_lib.proofs.playing.play_rows.Goals as goal
@@ -9,7 +10,6 @@ pub returns : goal.returns
 returns c =
     let n = c.args.given.count in
     let most = c.requires.rows_most in
-    let out = part_of_zeros _ (n * frames) c.zeros-out.ensures (omega (arith, most)) in
-    let aux = part_of_zeros _ (n * frames) c.zeros-aux.ensures (omega (arith, most)) in
-    let kept = part_of_zeros _ (n * kept_count) c.zeros-kept.ensures (omega (arith, most)) in
-    played_blank _ _ _ _ out aux kept c.play_take.ensures.output
+    let samples = part_of_zeros (most_rows * frames) (n * frames) (omega (arith, most)) in
+    let kept = part_of_zeros (most_rows * kept_count) (n * kept_count) (omega (arith, most)) in
+    played_blank _ _ _ _ samples samples kept c.play_take.ensures.output

@@ -9,5 +9,5 @@ use Rattle.sine_oscillator.proofs.sine.near_sine.Goals as goal
 pub returns : goal.returns
 unfolding interpolate_wrap of_bits decimal
 returns c =
-    let n = near c.args.phase (search rules) c.requires.0 c.requires.1 in
+    let n = near c.args.phase (search rules) c.requires.above_zero c.requires.below_8192 in
     rw (c.held_part-part.ensures, c.told-table, n.0, n.1)

@@ -1,12 +1,9 @@
--- `lower_digit` is the definition, by its one test.
-use Rattle.std.proofs.Common.{lt-ltb, le-ltb}
-use Rattle.text.specs.Text.{lower_digit}
+-- The library's character of a digit.
+use Rattle.std.proofs.Common.{◌∙◌}
+use Rattle.text.proofs.LowerDigits.{char_of_digit}
 use Rattle.text.proofs.word.lower_digit.Goals as goal
 
-pub returns-then-value-lt10 : goal.returns-then-value-lt10
-unfolding lower_digit
-returns-then-value-lt10 c = simp (lt-ltb _ _ c.if-value-lt10.true)
-
-pub returns-else-value-lt10 : goal.returns-else-value-lt10
-unfolding lower_digit
-returns-else-value-lt10 c = simp (le-ltb _ _ c.if-value-lt10.false)
+pub returns : goal.returns
+returns c =
+    let s = rw c.unwrap.ensures at c.from_digit.ensures.value in
+    s.1 ∙ char_of_digit c.args.value

@@ -1,6 +1,6 @@
 -- The walk's loop, by the law that a walk goes on (Going).
 use Rattle.std.proofs.Common.{arith}
-use lib.Ieee.{of_bits}
+use Rattle.std.specs.Float.Ieee.{of_bits}
 use Rattle.words.specs.Binary32.{decimal}
 use Rattle.oscillator.proofs.Sizes.{period_float}
 use Rattle.wavetable_oscillator.proofs.Going.{walk_begins, walk_goes_on, walk_ends}

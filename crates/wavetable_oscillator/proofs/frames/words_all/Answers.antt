@@ -1,6 +1,6 @@
 -- The loop that writes the words, by the law of lent runs that a loop fills.
 use Rattle.std.proofs.Common.{arith, refl}
-use lib.Ieee.{of_bits, to_bits}
+use Rattle.std.specs.Float.Ieee.{of_bits, to_bits}
 use Rattle.words.specs.Binary32.{decimal}
 use Rattle.utils.proofs.Runs.{filling_none, filling_more}
 use Rattle.wavetable_oscillator.proofs.frames.words_all.Goals as goal

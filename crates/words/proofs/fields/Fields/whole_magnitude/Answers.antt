@@ -1,6 +1,6 @@
 -- `words::fields::Fields::whole_magnitude` meets its contract.
 use Rattle.std.proofs.Common.{le-ltb, ◌+◌, ◌-◌, arith, shl_exact}
-use borrow.Author.Tests.{lt-leb}
+use Rattle.std.proofs.lemmas.Bool.{lt-leb}
 use Rattle.words.specs.Fields.{whole_magnitude}
 use Rattle.words.proofs.fields.Fields.whole_magnitude.Goals as goal
 

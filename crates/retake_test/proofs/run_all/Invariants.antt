@@ -1,9 +1,0 @@
--- The next case starts further on, within the input.
-use Rattle.std.proofs.Common.{length, ◌-◌, ◌≤◌}
-use Rattle.retake_test.proofs.run_all.Given as goal
-
-abbrev pub invariant-loop-from : goal.invariant-loop-from
-invariant-loop-from g l = l.from ≤ length l.input
-
-abbrev pub decreases-loop-from : goal.decreases-loop-from
-decreases-loop-from g l = length l.input - l.from
