@@ -53,8 +53,8 @@ fn row_limits(row: [u32; ROW_WORDS], k: usize) -> Result<(), Refusal>
     }
 }
 
-// The same of `count` rows, the first of which is row `first` of the score. One loop for all its callers: inlined in each of them, 4,096 rows take
-// 7.4 µs in place of 4.8.
+// The same of `count` rows, the first of which is row `first` of the score. Not inlined: the loop would stand in the library once for each stretch
+// of rows that a call tests.
 #[inline(never)]
 fn limits_from(rows: &[u32], count: usize, first: usize) -> Result<(), Refusal>
     requires rows_room { count * row_words ≤ length rows.now }
