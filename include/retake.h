@@ -42,7 +42,7 @@
  *
  * Every buffer is the caller's, and each length counts elements, not bytes. No two buffers of a call
  * may overlap, and `first`, `second` and `counts` (five numbers) are places of their own. The functions
- * keep nothing between calls, allocate nothing, take about 15 KiB of stack and always end; calls that get
+ * keep nothing between calls, allocate nothing, take about 11 KiB of stack and always end; calls that get
  * different buffers may run at the same time.
  *
  * For rows to be put in, lend more than the score needs: a score that may grow to n rows wants n times
