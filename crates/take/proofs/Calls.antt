@@ -7,7 +7,7 @@ use Rattle.score.specs.declared.refusal.Refusal.{Refusal}
 use Rattle.score.specs.Numbers.{accepted}
 use Rattle.score.specs.Rows.{row_words, row_at, put_row, insert_row, remove_row}
 use Rattle.rows.specs.declared.Report.{Report}
-use Rattle.rows.specs.Rows.{Setup, Take, lent, fresh_start, words_before, room_at, closed_at, Run, nothing, reported, idle, stops_of, run_of}
+use Rattle.rows.specs.Rows.{Setup, Take, fresh_start, words_before, room_at, closed_at, Run, nothing, reported, idle, stops_of, run_of}
 use Rattle.runs.specs.Inner.{Holding, SameLengths}
 use Rattle.refusals.specs.declared.Call.{Call}
 use Rattle.refusals.specs.declared.Call.TheVariants.{Render, Edit, Insert, Remove}
@@ -74,11 +74,6 @@ module _ (s : Setup) (n : ℕ) (rows : List ℕ) (t : Take) where
   unfolding least_count largest_count wrong_position
   remove_removable p a =
       record { some = a.lent_right.fit.count_least; below = is_below p n a.positioned; holding = holding s 2 4096 n rows t (omega arith) a.lent_right }
-
--- ---- Places moved.
-
-pub lent_is : (out out' aux aux' kept kept' : List ℕ) → out' ≡ out → aux' ≡ aux → kept' ≡ kept → lent out' aux' kept' ≡ lent out aux kept
-lent_is out out' aux aux' kept kept' o a k = rw (o, a, k)
 
 -- ---- What a call does.
 

@@ -1,5 +1,5 @@
 -- The corners stored to a lent list and loaded again: eight stores in a row are a part of the list put in, so the eight just stored load as they are, and those before them stay.
-use Rattle.std.proofs.Common.{◌≡◌, ◌∙◌, subst, List, [], ◌∷◌, ◌++◌, append_assoc, ℕ, suc, ◌+◌, ◌*◌, ◌<◌, not-suc-le-zero, add-one, arith, length, get_or, take, drop, length-take-le, get_or-append-add, get_or-take, below_more, ℤ, Float}
+use Rattle.std.proofs.Common.{◌≡◌, ◌∙◌, subst, List, [], ◌∷◌, ◌++◌, append_assoc, ℕ, suc, ◌+◌, ◌*◌, ◌<◌, add-one, arith, length, get_or, take, drop, length-take-le, get_or-append-add, get_or-take, below_more, ℤ, Float}
 use Rattle.std.proofs.Math.ListN.{get_or-append}
 use Rattle.std.proofs.Math.Seq.{sets-eq, get_or-append_seam}
 use Rattle.std.specs.Float.{nan}
@@ -58,9 +58,6 @@ loads_same l at bank p x y z t h =
 
 -- the readings go on: one more frame's corners are stored
 module _ (bank : List ℤ) (keys : List ℕ) (phases : List Float) where
-  pub none_read : (l : List Float) → CornersRead bank keys phases l 0
-  none_read l = record { each_read = λ j h. absurd (not-suc-le-zero h) }
-
   pub one_more_read : (l : List Float) (i : ℕ) → i * 8 + 7 < length l → CornersRead bank keys phases l i
       → CornersRead bank keys phases (stored l (i * 8) (corners_of bank (get_or keys i 0) (get_or phases i nan))) (i + 1)
   one_more_read l i h r =
