@@ -85,7 +85,8 @@
  *
  * A frame of the wavetable voice or the oscillator counts once in each kind that it holds and once in
  * `held`, so that no kind is above `held`, nor `held` above their sum. On the terrain voice `held` is the
- * sum. docs/GUIDE.md says what to turn down for each kind.
+ * sum, and a held reading has x and y held apart: at most column 62 and row 62 of the map, at most wave 62
+ * and sample 128 of the 64 waves of the bank that it reads. docs/GUIDE.md says what to turn down for each kind.
  *
  * A refused call changes no lent buffer.
  *
@@ -129,12 +130,16 @@ extern "C" {
 #endif
 
 /* The version of this header and of the archive that is built beside it. A number is added to an enum,
- * a member to the end of a struct or a function in a minor version; anything else moves the major one,
- * or, while that is 0, the minor one. */
+ * a member to the end of a struct or a function in a minor version; anything else, such as other
+ * samples for the same score, moves the major one, or, while that is 0, the minor one.
+ *
+ * 0.6.0 plays other samples where a reading of map or bank is held (counts[3], counts[4]), and none
+ * elsewhere. Kept words, counts and stops are as in 0.5.0, so no call notices a take of an earlier version:
+ * if its score holds map or bank, render it whole before it is edited. */
 #define RETAKE_VERSION_MAJOR 0
-#define RETAKE_VERSION_MINOR 5
+#define RETAKE_VERSION_MINOR 6
 #define RETAKE_VERSION_PATCH 0
-#define RETAKE_VERSION "0.5.0"
+#define RETAKE_VERSION "0.6.0"
 
 #define RETAKE_ROW_WORDS 5        /* words of a row */
 #define RETAKE_KEPT_WORDS 13      /* words kept after each row */
@@ -242,7 +247,8 @@ uint32_t retake_render(uint32_t instrument, uint32_t rate, uint32_t frames,
 /* Puts five words into row `position` of the score and renders the rows that depend on them: from
  * that row to just before the next row that restarts, or whose state before it stays the same, or to
  * the end. Equal words render nothing. Rows and take are handed over as the call before left them,
- * with the same instrument, rate, frames, bank and map; the take is then that of a fresh rendering.
+ * with the same instrument, rate, frames, bank and map, and by the same version (RETAKE_VERSION); the take
+ * is then that of a fresh rendering.
  *
  * Success: *first is the number of rows rendered, *second how often a position was held in them, `counts`
  * of which kind. Refusals: 1 to 9; 9 looks at the score with the new row put in. */

@@ -1,5 +1,5 @@
 /* Reads a score of three rows, renders it on the wavetable voice, edits its second row, puts a bar of four rows in and takes it out.
- * Then a score that holds positions, on the plain oscillator: of which kind, and turned down.
+ * Then scores that hold positions, of which kind, and turned down: on the plain oscillator, and on the terrain voice, whose path leaves the map.
  *
  *     cc -Iinclude examples/c/retake_example.c target/staticlib/libretake_c.a -o target/retake_example
  *     target/retake_example
@@ -24,7 +24,15 @@ static const char bright[] =
     "42700000 3f800000 00000000 00000000 00000000\n"
     "42700000 3f800000 00000000 00000000 00000000\n";
 
+static const char outward[] =
+    "note timbre morph harmonics restart\n"
+    "42f00000 3f800000 3f800000 3f800000 00000001\n"
+    "42f00000 3f800000 3f800000 3f800000 00000000\n"
+    "42f00000 3f800000 3f000000 3f800000 00000000\n"
+    "00000000 3f800000 00000000 3f800000 00000000\n";
+
 static int16_t bank[RETAKE_BANK_LENGTH];
+static uint8_t map[RETAKE_MAP_LENGTH];
 static uint32_t rows[ROOM * RETAKE_ROW_WORDS], out[MOST], aux[MOST], kept[ROOM * RETAKE_KEPT_WORDS];
 static uint32_t before[ROWS * FRAMES];
 
@@ -57,6 +65,25 @@ static int hold(retake_score *score) {
         row.timbre = 0.9999f;
         if (refused("edit", retake_edit_row(&settings, score, &take, k, row))) return 1;
     }
+    return 0;
+}
+
+/* A map that is high in its first columns alone, in every row. After high notes the path leaves it past the last row, at column 0:
+ * the reading stays in that column. (In the map's last corner the sample would be 0.) Turned down, the path stays on the map. */
+static int leave(retake_score *score) {
+    const retake_settings settings = {RETAKE_TERRAIN_WITH_MAP, 32000, 1, bank, RETAKE_BANK_LENGTH, map, RETAKE_MAP_LENGTH};
+    const retake_take take = {out, MOST, aux, MOST, kept, ROOM * RETAKE_KEPT_WORDS};
+    retake_row row;
+    int i;
+
+    for (i = 0; i < RETAKE_MAP_LENGTH; i++) map[i] = i % RETAKE_MAP_EDGE < 8 ? 128 : 0;
+    if (refused("read", retake_read_text(score, outward, sizeof outward - 1))) return 1;
+    if (refused("render", retake_render_score(&settings, score, &take))) return 1;
+    printf("last sample, past the map: %.3g\n", retake_float(out[3]));
+    row = retake_row_at(score, 3);
+    row.timbre = 0.67f;
+    if (refused("edit", retake_edit_row(&settings, score, &take, 3, row))) return 1;
+    printf("last sample, on the map:   %.3g\n", retake_float(out[3]));
     return 0;
 }
 
@@ -103,5 +130,5 @@ int main(void) {
     }
     if (memcmp(before, out, sizeof before) != 0) return 1;
     printf("without it: %" PRIu64 " rows, the samples as before\n", score.count);
-    return hold(&score);
+    return hold(&score) || leave(&score);
 }

@@ -6,7 +6,8 @@ use std::ops::AddAssign;
 ///
 /// On the wavetable voice and the plain oscillator a frame counts once in each kind that it holds, and once in
 /// `held`: so `held` is at most the sum of the kinds, and at least the largest. On the terrain voice a reading
-/// holds the map or the bank, and `held` is the sum of both. `docs/GUIDE.md` says what to turn down for each.
+/// holds the map or the bank, x and y apart, and `held` is the sum of both. `docs/GUIDE.md` says what to turn
+/// down for each.
 ///
 /// ```
 /// use wohketa_retake::{BANK, Counts, Instrument, Reel, Row, Setup};
@@ -37,9 +38,10 @@ pub struct Counts {
     pub wave_position: u64,
     /// Frames of the wavetable voice that held z.
     pub level: u64,
-    /// Readings of the map that were held.
+    /// Readings of the map that were held, at column 62 and row 62 at most.
     pub map: u64,
-    /// Readings of the bank by the terrain voice that were held.
+    /// Readings of the bank by the terrain voice that were held, at wave 62 and sample 128 at most, of the 64 waves
+    /// that they read.
     pub bank: u64,
 }
 

@@ -53,8 +53,9 @@
 //!
 //! [`read_score`], [`write_score`], [`render`], [`edit`], [`insert`] and [`remove`] are the library's
 //! functions over buffers that the caller lends, with the row count beside them: the last three start
-//! from the words that the lent take keeps, whatever they are, and the caller sees to it that they are
-//! those of a rendering with the same setup. [`sys`] has the C functions.
+//! from the words that the lent take keeps, whatever they are, and the caller sees to it that the take is
+//! that of a rendering with the same setup, by this version: 0.6.0 plays other samples than 0.5.0 where a
+//! reading of map or bank is held. [`sys`] has the C functions.
 #![deny(missing_docs)]
 
 mod calls;

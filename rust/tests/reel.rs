@@ -4,7 +4,8 @@ mod common;
 
 use common::{ROW, Series, bank, climbing, instruments, map, numbers, setup};
 use wohketa_retake::{
-    Column, Counts, Edited, Instrument, KEPT_WORDS, MOST_ROWS, Reason, Reel, Refusal, Row, Score, Setup, samples,
+    BANK, Column, Counts, Edited, Instrument, KEPT_WORDS, MAP, MOST_ROWS, Reason, Reel, Refusal, Row, Score, Setup,
+    samples,
 };
 
 /// The same score and take, word by word.
@@ -226,6 +227,57 @@ fn a_reel_says_which_kind_it_held() {
     // Refused edits leave the report of the rendering as it was.
     reel.edit(9, Row { timbre: 2.0, ..ROW }).unwrap_err();
     assert_eq!(reel.rendering().held, 49);
+}
+
+/// The path's last point is at column 0 and row 63, flat 4,032: it is read at 3,968, where its column ends, and not at
+/// 4,030, in the map's last corner.
+#[test]
+fn a_reading_past_the_map_stays_in_its_column() {
+    let high = Row { note: 120.0, timbre: 1.0, morph: 1.0, harmonics: 1.0, restart: false };
+    let low = Row { note: 0.0, morph: 0.0, ..high };
+    // The last sample on a map with height 1 around this byte alone.
+    let sample = |at: usize| {
+        let mut map = [0; MAP];
+        for byte in [at, at + 1, at + 64, at + 65] {
+            map[byte] = 128;
+        }
+        let instrument = Instrument::TerrainWithMap(&map);
+        let setup = Setup { instrument, rate: 32_000, frames: 1, bank: &[0; BANK] };
+        let mut score = [high, high, Row { morph: 0.5, ..high }, high];
+        let mut reel = Reel::render(&setup, &score).unwrap();
+        score[3] = low;
+        assert_eq!(numbers(reel.edit(3, low).unwrap().counts), [0, 0, 0, 1, 0]);
+        assert_fresh(&reel, &score);
+        reel.out()[3]
+    };
+    // One of the two points of the frame.
+    assert!((sample(3_968) - 0.5).abs() < 0.001);
+    assert_eq!(sample(4_030), 0.0);
+}
+
+/// The path's last point is at wave 63 and sample 47 of the last set: it is read at wave 62 and sample 47, and not at
+/// 25,209, where the bank ends.
+#[test]
+fn a_reading_past_the_bank_stays_at_its_sample() {
+    let high = Row { note: 120.0, timbre: 1.0, morph: 0.5, harmonics: 0.625, restart: false };
+    let low = Row { note: 20.0, morph: 1.0, ..high };
+    let last = Row { note: 50.0, harmonics: 0.75, ..low };
+    // The last sample with a bank that rises from this sample on, in this wave and the next, for two steps alone.
+    let sample = |at: usize| {
+        let mut bank = [0; BANK];
+        for at in [at, at + 132] {
+            bank[at..at + 3].copy_from_slice(&[0, 1_024, 2_048]);
+        }
+        let setup = Setup { instrument: Instrument::Terrain, rate: 32_000, frames: 2, bank: &bank };
+        let mut score = [high, low, high, high];
+        let mut reel = Reel::render(&setup, &score).unwrap();
+        score[3] = last;
+        assert_eq!(numbers(reel.edit(3, last).unwrap().counts), [0, 0, 0, 0, 1]);
+        assert_fresh(&reel, &score);
+        reel.out()[7]
+    };
+    assert!(sample((2 * 64 + 62) * 132 + 47) > 0.2);
+    assert_eq!(sample(25_209), 0.0);
 }
 
 #[test]

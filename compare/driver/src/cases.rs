@@ -67,6 +67,21 @@ impl Case {
         Case { instrument, rate, frames, bank, map, rows }
     }
 
+    /// An acceptable case whose path often leaves the circle, and with it the map or the bank.
+    pub fn leaving(random: &mut Random, published: &[i16], most: usize) -> Case {
+        let instrument = random.pick(&[1, 2]);
+        let map = if instrument == 2 { map(random) } else { Vec::new() };
+        let (rate, frames) = (32_000 + random.below(12_001) as u32, 1 + random.below(12) as u32);
+        let mut rows = Vec::new();
+        for k in 0..1 + random.below(most) {
+            let mut values = std::array::from_fn(|name| value(random, name, false));
+            leave_circle(random, k, &mut values);
+            rows.extend(values);
+            rows.push(0);
+        }
+        Case { instrument, rate, frames, bank: bank(random, published), map, rows }
+    }
+
     /// An acceptable case in which a block has a whole number of periods once the frequency is steady. The
     /// phase then comes back to where it was, and rows put in or taken out fade as edits do.
     pub fn whole_periods(random: &mut Random, published: &[i16], most: usize) -> Case {
@@ -161,13 +176,7 @@ pub fn rows(random: &mut Random, count: usize) -> Vec<u32> {
             values = std::array::from_fn(|name| value(random, name, adverse));
         }
         match character {
-            // A path that leaves the circle: a high note draws it out to an ellipse, low notes then walk
-            // it with a large radius, on high layers.
-            0 => {
-                values[0] = (if k % 3 == 0 { 100.0 + random.unit() * 20.0 } else { random.unit() * 60.0 }).to_bits();
-                values[1] = 1f32.to_bits();
-                values[3] = (0.5 + random.unit() * 0.5).to_bits();
-            }
+            0 => leave_circle(random, k, &mut values),
             // A z that climbs to its top.
             1 => values[3] = 1f32.to_bits(),
             _ => (),
@@ -176,6 +185,14 @@ pub fn rows(random: &mut Random, count: usize) -> Vec<u32> {
         rows.push(u32::from(random.once_in(restarts)));
     }
     rows
+}
+
+/// A path that leaves the circle: a high note draws it out to an ellipse, low notes then walk it with a large
+/// radius, on high layers.
+fn leave_circle(random: &mut Random, k: usize, values: &mut [u32; 4]) {
+    values[0] = (if k % 3 == 0 { 100.0 + random.unit() * 20.0 } else { random.unit() * 60.0 }).to_bits();
+    values[1] = 1f32.to_bits();
+    values[3] = (0.5 + random.unit() * 0.5).to_bits();
 }
 
 /// Rows whose timbre from some row on is 1: there the oscillator's waveform may come to 63.
@@ -245,7 +262,7 @@ pub fn odd_state(random: &mut Random, instrument: u32) -> [u32; KEPT_WORDS] {
 
 /// The same with positions that go further, past their tops.
 pub fn far_state(random: &mut Random, instrument: u32) -> [u32; KEPT_WORDS] {
-    let far = random.pick(&[1.2, 4.0, 30.0]);
+    let far = random.pick(&[1.2, 4.0, 30.0, 1000.0]);
     state_to(random, instrument, far)
 }
 
@@ -272,7 +289,8 @@ fn state_to(random: &mut Random, instrument: u32, far: f32) -> [u32; KEPT_WORDS]
             (_, 2) => x * 1.5,
             (_, 3) => x * 1.5 * far,
             (_, 4) => (x * 3.0 - 1.5) * far,
-            (_, 5) => x * 9.0 * far,
+            // Further up only the last two layers are read.
+            (_, 5) => x * 9.0 * far.min(1.2),
             _ => 0.0,
         };
         usual.to_bits()

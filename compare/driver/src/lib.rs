@@ -2,6 +2,7 @@
 
 pub mod cases;
 pub mod changes;
+pub mod edges;
 pub mod library;
 pub mod original;
 pub mod random;

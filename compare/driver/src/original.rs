@@ -7,7 +7,7 @@ use model::voice::Parameters;
 use model::{KEPT_WORDS, ROW_WORDS, Setup, WAVE};
 use original::engine::wavetable_engine::WavetableEngine;
 use original::engine::{Engine, EngineParameters, note_to_frequency};
-use original::engine2::wave_terrain_engine::WaveTerrainEngine;
+use original::engine2::wave_terrain_engine::{self, WaveTerrainEngine};
 use original::oscillator::wavetable_oscillator::WavetableOscillator;
 use original::resources::waves::WAV_INTEGRATED_WAVES;
 
@@ -170,6 +170,19 @@ fn parameters(rate: u32, row: &[u32]) -> EngineParameters {
         a0_normalized: a0(rate),
         ..EngineParameters::default()
     }
+}
+
+/// The reading of a map at a point, or none where the original panics.
+pub fn read_map(map: &[u8], [x, y]: [f32; 2]) -> Option<f32> {
+    let map = map.try_into().expect("a whole map");
+    catch_unwind(|| wave_terrain_engine::read_map(x, y, map)).ok()
+}
+
+/// The reading of one of the three parts of a bank at a point, or none where the original panics.
+pub fn read_bank(bank: &[i16], number: u64, [x, y]: [f32; 2]) -> Option<f32> {
+    // SAFETY: as in `Original::new`.
+    unsafe { WAV_INTEGRATED_WAVES.lend(bank.try_into().expect("a whole bank")) };
+    catch_unwind(|| wave_terrain_engine::read_bank(x, y, number as i32)).ok()
 }
 
 /// The rows of a score up to the first in which the original panics.

@@ -1,5 +1,5 @@
-//! Document 01 and document 02's third voice (N1), rows put in and taken out (N2), tidy writer (N4) and kinds
-//! of holds (N5) in plain Rust, frame by frame, written for being read and not for speed.
+//! Document 01 and document 02's third voice (N1), rows put in and taken out (N2), tidy writer (N4), kinds of
+//! holds (N5) and map edges by axis (N6) in plain Rust, frame by frame, written for being read and not for speed.
 //!
 //! It is the judge wherever the original has no answer: holds and their kinds, kept words, edits, insertions,
 //! removals, refusals, the score text, read and written, and the program. Elsewhere the comparison holds it to

@@ -1,15 +1,19 @@
-//! "Path and terrain voice".
+//! "Path and terrain voice", with document 02's "Map edges by axis" (N6).
 
 use crate::Setup;
 use crate::floats::{a0, fast_rsqrt_carmack, increment, note_to_frequency, part, sine, whole};
-use crate::voice::{Block, Holds, Parameters};
+use crate::voice::{Block, Edge, Holds, Parameters};
 
 /// Path samples for each frame.
 const OVERSAMPLING: u32 = 2;
 /// The last flat number from which a whole map reading stays inside the map.
-const MAP_TOP: u128 = 4_030;
+const MAP_LAST: u128 = 4_030;
 /// The last flat number from which a whole bank reading stays inside the bank.
-const BANK_TOP: u128 = 25_209;
+const BANK_LAST: u128 = 25_209;
+/// "On the map both stop at 62": x and y.
+const MAP_REACH: [u64; 2] = [62, 62];
+/// "On the bank x stops at 62 and y at 128".
+const BANK_REACH: [u64; 2] = [62, 128];
 
 #[derive(Debug, Clone, Copy)]
 pub struct Terrain {
@@ -124,8 +128,8 @@ fn height(setup: &Setup, x: f32, y: f32, layer: u64, holds: &mut Holds) -> f32 {
             sine(k + x * y / (2.0 + (5.0 * xys).abs()) * 6.366)
         }
         4 => sine(0.159 / (0.170 + (y - 0.25).abs()) + 0.477 / (0.350 + ((x + 0.5) * (y + 1.5)).abs()) + k),
-        5..=7 => read_bank(setup.bank, x, y, 7 - layer, holds),
-        8 => read_map(setup.map, x, y, holds),
+        5..=7 => read_bank(setup.bank, 7 - layer, [x, y], holds),
+        8 => read_map(setup.map, [x, y], holds),
         _ => unreachable!("layer {layer}"),
     }
 }
@@ -134,22 +138,32 @@ fn squash(x: f32, a: f32) -> f32 {
     x * a / (1.0 + (x * a).abs())
 }
 
-/// The mathematical sum is held at `top`; it fits 128 bits for all whole parts.
-fn held_flat(flat: u128, top: u128, count: &mut u64) -> usize {
-    if flat > top {
-        *count += 1;
-        top as usize
-    } else {
-        flat as usize
+/// Where a reading at `point`, the whole parts of x and y, starts. `flat` is the mathematical sum; it fits 128 bits for
+/// all whole parts. Held, "where the Rust would read past the end, the two whole parts are held apart".
+fn start(flat: impl Fn(u128, u128) -> u128, last: u128, reach: [u64; 2], point: [u64; 2], edge: &mut Edge) -> usize {
+    let [x, y] = point;
+    let unheld = flat(x.into(), y.into());
+    if unheld <= last {
+        return unheld as usize;
     }
+    let held = flat(x.min(reach[0]).into(), y.min(reach[1]).into());
+    let (x_past, y_past) = (x > reach[0], y > reach[1]);
+    edge.add(&Edge {
+        held: 1,
+        x: (x_past && !y_past).into(),
+        y: (y_past && !x_past).into(),
+        x_and_y: (x_past && y_past).into(),
+        elsewhere: (held != last).into(),
+    });
+    held as usize
 }
 
-fn read_map(map: &[u8], x: f32, y: f32, holds: &mut Holds) -> f32 {
+pub fn read_map(map: &[u8], [x, y]: [f32; 2], holds: &mut Holds) -> f32 {
     let x = (x + 1.0) * 31.0;
     let y = (y + 1.0) * 31.0;
     let x_fraction = x - whole(x) as f32;
     let y_fraction = y - whole(y) as f32;
-    let flat = held_flat(64 * u128::from(whole(y)) + u128::from(whole(x)), MAP_TOP, &mut holds.map);
+    let flat = start(|x, y| 64 * y + x, MAP_LAST, MAP_REACH, [whole(x), whole(y)], &mut holds.map);
     let line = |at: usize| {
         let [a, b] = [map[at], map[at + 1]].map(f32::from);
         a + (b - a) * x_fraction
@@ -159,13 +173,14 @@ fn read_map(map: &[u8], x: f32, y: f32, holds: &mut Holds) -> f32 {
 }
 
 /// x picks the wave and y the sample.
-fn read_bank(bank: &[i16], x: f32, y: f32, number: u64, holds: &mut Holds) -> f32 {
+pub fn read_bank(bank: &[i16], number: u64, [x, y]: [f32; 2], holds: &mut Holds) -> f32 {
     let sample = (y + 1.0) * 0.5 * 128.0;
     let wave = (x + 1.0) * 0.5 * 63.0;
     let sample_fraction = sample - whole(sample) as f32;
     let wave_fraction = wave - whole(wave) as f32;
-    let sum = 8_448 * u128::from(number) + 132 * u128::from(whole(wave)) + u128::from(whole(sample));
-    let flat = held_flat(sum, BANK_TOP, &mut holds.bank);
+    let first = 8_448 * u128::from(number);
+    let point = [whole(wave), whole(sample)];
+    let flat = start(|x, y| first + 132 * x + y, BANK_LAST, BANK_REACH, point, &mut holds.banks[number as usize]);
     let slope = |at: usize| {
         let [a, b, c] = [bank[at], bank[at + 1], bank[at + 2]].map(f32::from);
         (b - a) + (c - b - b + a) * sample_fraction

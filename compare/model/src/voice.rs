@@ -22,6 +22,28 @@ impl Parameters {
     }
 }
 
+/// Readings of the map or of one bank that were held at its edge, for the comparison.
+#[derive(Debug, Clone, Copy, Default, PartialEq, Eq)]
+pub struct Edge {
+    pub held: u64,
+    /// Of these: past its reach was x alone, y alone, or both.
+    pub x: u64,
+    pub y: u64,
+    pub x_and_y: u64,
+    /// Of these: the reading starts elsewhere than at the last flat number there is.
+    pub elsewhere: u64,
+}
+
+impl Edge {
+    pub fn add(&mut self, other: &Edge) {
+        self.held += other.held;
+        self.x += other.x;
+        self.y += other.y;
+        self.x_and_y += other.x_and_y;
+        self.elsewhere += other.elsewhere;
+    }
+}
+
 /// How often each position was held in a block or a frame, for the comparison. `layer` is not part of `held`.
 #[derive(Debug, Clone, Copy, Default, PartialEq, Eq)]
 pub struct Holds {
@@ -30,8 +52,9 @@ pub struct Holds {
     pub y: u64,
     pub z: u64,
     pub waveform: u64,
-    pub map: u64,
-    pub bank: u64,
+    pub map: Edge,
+    /// By the bank's number, 0 to 2.
+    pub banks: [Edge; 3],
     pub layer: u64,
     /// Frames that held both x and y, and frames that held several kinds.
     pub x_and_y: u64,
@@ -40,7 +63,12 @@ pub struct Holds {
 
 impl Holds {
     pub fn any(&self) -> bool {
-        self.phase + self.x + self.y + self.z + self.waveform + self.map + self.bank + self.layer > 0
+        self.phase + self.x + self.y + self.z + self.waveform + self.map.held + self.bank() + self.layer > 0
+    }
+
+    /// Held readings of the three banks.
+    pub fn bank(&self) -> u64 {
+        self.banks.iter().map(|edge| edge.held).sum()
     }
 
     pub fn add(&mut self, other: &Holds) {
@@ -49,8 +77,8 @@ impl Holds {
         self.y += other.y;
         self.z += other.z;
         self.waveform += other.waveform;
-        self.map += other.map;
-        self.bank += other.bank;
+        self.map.add(&other.map);
+        self.banks.iter_mut().zip(&other.banks).for_each(|(edge, other)| edge.add(other));
         self.layer += other.layer;
         self.x_and_y += other.x_and_y;
         self.several += other.several;
@@ -86,8 +114,8 @@ impl Block {
 
     /// Counts the readings of a block of the terrain voice, each of which holds one kind or none.
     pub fn count_readings(&mut self, holds: Holds) {
-        self.held = holds.map + holds.bank;
-        self.counts = Counts { map: holds.map, bank: holds.bank, ..Counts::default() };
+        self.counts = Counts { map: holds.map.held, bank: holds.bank(), ..Counts::default() };
+        self.held = self.counts.map + self.counts.bank;
         self.holds = holds;
     }
 }

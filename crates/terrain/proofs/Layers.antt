@@ -1,20 +1,17 @@
 -- Which layers there are: the map's is there only with a map. And what a layer holds.
-use Rattle.std.proofs.Common.{◌≡◌, refl, ◌⊎◌, inl, inr, Bool, true, false, cond, List, ℕ, ◌+◌, ◌-◌, ◌*◌, ◌≤◌, arith, eqb, leb, ltb, ℤ, length, Float}
+use Rattle.std.proofs.Common.{◌≡◌, refl, ◌⊎◌, inl, inr, Bool, true, false, cond, List, ℕ, ◌+◌, ◌-◌, ◌≤◌, arith, eqb, leb, ℤ, length, Float}
 use Rattle.std.proofs.lemmas.Bool.{eqb-false}
-use Rattle.words.specs.Binary32.{◌⊕◌, ◌⊗◌, decimal, of_count}
-use Rattle.words.specs.Parts.{whole_part}
-use Rattle.utils.specs.Holds.{none, of_map, of_bank, OfReadings}
+use Rattle.utils.specs.Holds.{OfReadings}
 use Rattle.utils.proofs.Summing.{either, readings_summed, map_kinds, bank_kinds}
-use Rattle.oscillator.specs.Bank.{wave_length, table_size_f}
 use Rattle.terrain.specs.Layers.{Lent, top, top_with_map, layer_top}
+use Rattle.terrain.proofs.Places.{start_has}
 use Rattle.terrain.specs.Heights.{
   Reading,
+  Start,
   map_length,
-  terrain_size,
-  map_edge,
+  map_table,
   terrain_lookup,
-  num_waves,
-  bank_edge,
+  bank_table,
   last_bank_layer,
   map_layer,
   terrain_lookup_wt,
@@ -49,16 +46,11 @@ layer = either (λ (r : Reading). OfReadings r.holds)
 
 map_held : (map : List ℕ) (x y : Float) → OfReadings (terrain_lookup map x y).holds
 unfolding terrain_lookup
-map_held map x y =
-    let coord_scale = of_count (terrain_size - 2) ⊗ decimal 5 1 in
-    either OfReadings (ltb map_edge (terrain_size * whole_part ((y ⊕ decimal 1 0) ⊗ coord_scale) + whole_part ((x ⊕ decimal 1 0) ⊗ coord_scale))) of_map none map_kinds readings_summed.of_none
+map_held map x y = start_has (λ (s : Start). OfReadings s.holds) map_table _ _ (λ h. map_kinds) (λ h. readings_summed.of_none)
 
 bank_held : (bank : List ℤ) (x y : Float) (number : ℕ) → OfReadings (terrain_lookup_wt bank x y number).holds
 unfolding terrain_lookup_wt
-bank_held bank x y number =
-    let sample = whole_part ((y ⊕ decimal 1 0) ⊗ decimal 5 1 ⊗ table_size_f) in
-    let wt = whole_part ((x ⊕ decimal 1 0) ⊗ decimal 5 1 ⊗ of_count (num_waves - 1)) in
-    either OfReadings (ltb bank_edge (num_waves * wave_length * number + wave_length * wt + sample)) of_bank none bank_kinds readings_summed.of_none
+bank_held bank x y number = start_has (λ (s : Start). OfReadings s.holds) (bank_table number) _ _ (λ h. bank_kinds) (λ h. readings_summed.of_none)
 
 pub terrain_kinds : (sine : List Float) (bank : List ℤ) (map : List ℕ) (x y : Float) (i : ℕ) → OfReadings (terrain_of sine bank map x y i).holds
 unfolding terrain_of

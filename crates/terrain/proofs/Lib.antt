@@ -1,4 +1,5 @@
--- What the proofs of this crate share, and the bench value.
+-- What the proofs of this crate share, the claims on edges, and the bench values.
 pub mod Bench
+pub mod Edges
 pub mod Layers
 pub mod Places

@@ -1,64 +1,69 @@
--- A place is at most its edge, and it is the same for whole parts that are cut off above every edge: then both sums are past the edge, or they are one.
-use Rattle.std.proofs.Common.{◌≡◌, refl, sym, ap, ◌∙◌, subst, ◌⊎◌, inl, inr, Bool, true, false, ℕ, ◌+◌, ◌-◌, ◌*◌, ◌≤◌, ◌<◌, min, arith, lt-ltb, ltb-true, ltb-false, ltb, Float}
-use Rattle.std.proofs.Math.Nat.{min-le_right, min-eq_left, min-eq_right}
+-- Where a reading starts, by its test against the edge, and that it is the same for whole parts that are cut off above every edge: then both are held, or they are one.
+use Rattle.std.proofs.Common.{◌≡◌, refl, sym, ap, ◌∙◌, subst, ◌⊎◌, inl, inr, Bool, true, false, ℕ, ◌-◌, ◌≤◌, ◌<◌, min, arith, lt-ltb, le-ltb, ltb-true, ltb-false, ltb, Float}
+use Rattle.std.proofs.Math.Nat.{min-eq_left}
 use Rattle.std.specs.Float.Ieee.{mul, of_int, round}
 use Rattle.words.specs.Binary32.{◌⊖◌, ◌⊗◌, decimal, of_count}
 use Rattle.words.specs.Parts.{whole_part, whole_float, part_of}
 use Rattle.words.specs.declared.Part.{Part}
-use Rattle.utils.specs.Holds.{of_map, of_bank}
-use Rattle.utils.specs.declared.holds.Holds.{Holds}
-use Rattle.oscillator.specs.Bank.{wave_length}
-use Rattle.terrain.specs.Heights.{Start, held_place, terrain_size, map_edge, map_place, num_waves, bank_edge, bank_place}
-use Rattle.terrain.specs.Reach.{reach}
-use Rattle.terrain.specs.Held.{start_of}
-use Rattle.terrain.specs.declared.Place.{Place}
+use Rattle.terrain.specs.Heights.{Start, Table, held_apart, untouched, start_in, terrain_size, map_table, num_waves, bank_table}
+use Rattle.terrain.specs.CutOff.{cut_off}
 
-place_past : (hold : Holds) (edge flat : ℕ) → edge < flat → held_place hold edge flat ≡ record { flat = edge; holds = hold }
-place_past hold edge flat h = rw (lt-ltb edge flat h, min-eq_right {n = edge} {m = flat} (omega arith))
+pub start_past : (t : Table) (x y : ℕ) → t.edge < t.flat x y → start_in t x y ≡ held_apart t x y
+unfolding start_in
+start_past t x y h = rw (lt-ltb t.edge (t.flat x y) h)
 
-pub place_most : (p : Place) (hold : Holds) (edge flat : ℕ) → start_of p ≡ held_place hold edge flat → p.flat ≤ edge
-place_most p hold edge flat e = subst (λ (s : Start). s.flat ≤ edge) (sym e) (min-le_right flat edge)
+pub start_within : (t : Table) (x y : ℕ) → t.flat x y ≤ t.edge → start_in t x y ≡ untouched t x y
+unfolding start_in
+start_within t x y h = rw (le-ltb t.edge (t.flat x y) h)
 
-same_place : (hold : Holds) (edge s t : ℕ) → (s ≡ t) ⊎ ((edge < s) × (edge < t)) → held_place hold edge s ≡ held_place hold edge t
-same_place hold edge s t (inl e) = ap (held_place hold edge) e
-same_place hold edge s t (inr h) = place_past hold edge s h.0 ∙ sym (place_past hold edge t h.1)
-
-cut : (far a : ℕ) → (min a far ≡ a) ⊎ ((min a far ≡ far) × (far < a))
-cut far a = go (ltb far a) refl
+-- what holds of it either way
+pub start_has : (P : Start → Type 0) (t : Table) (x y : ℕ) → (t.edge < t.flat x y → P (held_apart t x y)) → (t.flat x y ≤ t.edge → P (untouched t x y)) → P (start_in t x y)
+start_has P t x y past within = go (ltb t.edge (t.flat x y)) refl
   where
-    go : (b : Bool) → ltb far a ≡ b → (min a far ≡ a) ⊎ ((min a far ≡ far) × (far < a))
-    go true q = let l : far < a = ltb-true far a q in inr (min-eq_right {n = far} {m = a} (omega arith), l)
-    go false q = inl (min-eq_left (ltb-false far a q))
+    go : (b : Bool) → ltb t.edge (t.flat x y) ≡ b → P (start_in t x y)
+    go true q = let h = ltb-true t.edge (t.flat x y) q in subst P (sym (start_past t x y h)) (past h)
+    go false q = let h = ltb-false t.edge (t.flat x y) q in subst P (sym (start_within t x y h)) (within h)
 
-abbrev map_flat : ℕ → ℕ → ℕ
-map_flat x y = terrain_size * y + x
+-- ---- whole parts that are cut off
 
-abbrev bank_flat : ℕ → ℕ → ℕ → ℕ
-bank_flat number x y = num_waves * wave_length * number + wave_length * x + y
-
-map_place_cut : (x y : ℕ) → map_place (min x reach) (min y reach) ≡ map_place x y
-map_place_cut x y = same_place of_map map_edge (map_flat (min x reach) (min y reach)) (map_flat x y) (pick (cut reach x) (cut reach y))
+-- a whole part stays, or is as far as that
+cut : (a : ℕ) → (min a cut_off ≡ a) ⊎ (cut_off ≤ a)
+cut a = go (ltb cut_off a) refl
   where
-    pick : (min x reach ≡ x) ⊎ ((min x reach ≡ reach) × (reach < x)) → (min y reach ≡ y) ⊎ ((min y reach ≡ reach) × (reach < y))
-        → (map_flat (min x reach) (min y reach) ≡ map_flat x y) ⊎ ((map_edge < map_flat (min x reach) (min y reach)) × (map_edge < map_flat x y))
-    pick (inl e) (inl f) = inl (omega arith)
-    pick (inl e) (inr f) = inr (omega arith)
-    pick (inr e) f = inr (omega arith)
+    go : (b : Bool) → ltb cut_off a ≡ b → (min a cut_off ≡ a) ⊎ (cut_off ≤ a)
+    go true q = let l : cut_off < a = ltb-true cut_off a q in inr (omega arith)
+    go false q = inl (min-eq_left (ltb-false cut_off a q))
 
-bank_place_cut : (number x y : ℕ) → bank_place number (min x reach) (min y reach) ≡ bank_place number x y
-bank_place_cut number x y = same_place of_bank bank_edge (bank_flat number (min x reach) (min y reach)) (bank_flat number x y) (pick (cut reach x) (cut reach y))
+-- a table in which whole parts from `cut_off` on lie past the edge, and past their own reach
+pub record Cut (t : Table) : Type 0 where
+  pub x_far : (x y : ℕ) → cut_off ≤ x → t.edge < t.flat x y
+  pub y_far : (x y : ℕ) → cut_off ≤ y → t.edge < t.flat x y
+  pub x_near : t.x_reach ≤ cut_off
+  pub y_near : t.y_reach ≤ cut_off
+
+start_cut : (t : Table) → Cut t → (x y : ℕ) → start_in t (min x cut_off) (min y cut_off) ≡ start_in t x y
+start_cut t c x y = pick (cut x) (cut y)
   where
-    pick : (min x reach ≡ x) ⊎ ((min x reach ≡ reach) × (reach < x)) → (min y reach ≡ y) ⊎ ((min y reach ≡ reach) × (reach < y))
-        → (bank_flat number (min x reach) (min y reach) ≡ bank_flat number x y) ⊎ ((bank_edge < bank_flat number (min x reach) (min y reach)) × (bank_edge < bank_flat number x y))
-    pick (inl e) (inl f) = inl (omega arith)
-    pick (inl e) (inr f) = inr (omega arith)
-    pick (inr e) f = inr (omega arith)
+    past : t.edge < t.flat (min x cut_off) (min y cut_off) → t.edge < t.flat x y → start_in t (min x cut_off) (min y cut_off) ≡ start_in t x y
+    past h k =
+        let x_same : min (min x cut_off) t.x_reach ≡ min x t.x_reach = omega (arith, c.x_near) in
+        let y_same : min (min y cut_off) t.y_reach ≡ min y t.y_reach = omega (arith, c.y_near) in
+        start_past t (min x cut_off) (min y cut_off) h ∙ rw (x_same, y_same) (sym (start_past t x y k))
 
-pub map_place_of : (s : Start) (cx cy x y : ℕ) → s ≡ map_place cx cy → cx ≡ min x reach → cy ≡ min y reach → s ≡ map_place x y
-map_place_of s cx cy x y e f g = e ∙ rw (f, g) (map_place_cut x y)
+    pick : (min x cut_off ≡ x) ⊎ (cut_off ≤ x) → (min y cut_off ≡ y) ⊎ (cut_off ≤ y) → start_in t (min x cut_off) (min y cut_off) ≡ start_in t x y
+    pick (inl e) (inl f) = rw (e, f)
+    pick (inr h) f = past (c.x_far (min x cut_off) (min y cut_off) (omega arith)) (c.x_far x y h)
+    pick (inl e) (inr h) = past (c.y_far (min x cut_off) (min y cut_off) (omega arith)) (c.y_far x y h)
 
-pub bank_place_of : (s : Start) (number cx cy x y : ℕ) → s ≡ bank_place number cx cy → cx ≡ min x reach → cy ≡ min y reach → s ≡ bank_place number x y
-bank_place_of s number cx cy x y e f g = e ∙ rw (f, g) (bank_place_cut number x y)
+pub map_cut : Cut map_table
+map_cut = record { x_far = λ x y h. omega arith; y_far = λ x y h. omega arith; x_near = omega arith; y_near = omega arith }
+
+pub bank_cut : (number : ℕ) → Cut (bank_table number)
+bank_cut number = record { x_far = λ x y h. omega arith; y_far = λ x y h. omega arith; x_near = omega arith; y_near = omega arith }
+
+-- a start from cut-off whole parts is that from the true ones
+pub start_of_cut : (t : Table) → Cut t → (s : Start) (cx cy x y : ℕ) → s ≡ start_in t cx cy → cx ≡ min x cut_off → cy ≡ min y cut_off → s ≡ start_in t x y
+start_of_cut t c s cx cy x y e f g = e ∙ rw (f, g) (start_cut t c x y)
 
 -- a whole part that is not cut off leaves its fraction
 pub fraction_within : (far : ℕ) (x : Float) (r : Part) → r ≡ part_of far x → r.held ≡ false → r.fraction ≡ x ⊖ whole_float x

@@ -1,4 +1,4 @@
--- Document 01, "Path and terrain voice": the height of a terrain at a point, as `terrain` of `wave_terrain_engine.rs` has it.
+-- Document 01, "Path and terrain voice": the height of a terrain at a point, as `terrain` of `wave_terrain_engine.rs` has it; and document 02, N6, its edges.
 use Rattle.std.specs.Prelude.{ℕ, ◌+◌, ◌-◌, ◌*◌, min, cond, List, eqb, leb, ltb, ℤ, pos, Float}
 use Rattle.words.specs.Binary32.{◌⊕◌, ◌⊖◌, ◌⊗◌, ◌⊘◌, decimal, of_count}
 use Rattle.words.specs.Parts.{whole_part, whole_float}
@@ -61,23 +61,44 @@ pub record Start : Type 0 where
   pub flat : ℕ
   pub holds : Holds
 
--- "Where the Rust would read past the end, flat is held .. and that reading adds 1 to `held`."
-abbrev pub held_place : Holds → ℕ → ℕ → Start
-held_place hold edge flat = record { flat = min flat edge; holds = cond (ltb edge flat) hold none }
+-- A table that is read at the whole parts of x and y: flat there, the last flat from which the Rust completes a reading, how far each axis
+-- reaches where it doesn't, and how a hold counts.
+pub record Table : Type 0 where
+  pub flat : ℕ → ℕ → ℕ
+  pub edge : ℕ
+  pub x_reach : ℕ
+  pub y_reach : ℕ
+  pub hold : Holds
 
--- A map has "4,096 bytes, 64 rows of 64"; "flat is held at 4,030 (map)".
+-- "the two whole parts are held apart" (document 02, N6), "and that reading adds 1 to `held`".
+abbrev pub held_apart : Table → ℕ → ℕ → Start
+held_apart t x y = record { flat = t.flat (min x t.x_reach) (min y t.y_reach); holds = t.hold }
+
+-- "Readings that the Rust completes are untouched".
+abbrev pub untouched : Table → ℕ → ℕ → Start
+untouched t x y = record { flat = t.flat x y; holds = none }
+
+-- Where a reading of a table starts, map or bank: held "where the Rust would read past the end".
+unfoldable pub start_in : Table → ℕ → ℕ → Start
+start_in t x y = cond (ltb t.edge (t.flat x y)) (held_apart t x y) (untouched t x y)
+
+-- A map has "4,096 bytes, 64 rows of 64".
 abbrev pub map_length : ℕ
 map_length = 4096
 
 abbrev pub terrain_size : ℕ
 terrain_size = 64
 
+-- Past 4,030 the Rust would read past the map's end. "On the map both stop at 62."
 abbrev pub map_edge : ℕ
 map_edge = 4030
 
+abbrev pub map_reach : ℕ
+map_reach = 62
+
 -- "Map reading: flat = 64 times y's whole part plus x's".
-abbrev pub map_place : ℕ → ℕ → Start
-map_place x y = held_place of_map map_edge (terrain_size * y + x)
+abbrev pub map_table : Table
+map_table = record { flat = λ (x y : ℕ). terrain_size * y + x; edge = map_edge; x_reach = map_reach; y_reach = map_reach; hold = of_map }
 
 -- `terrain_lookup`: "it reads flat, +1, +64, +65", "fractions untouched".
 unfoldable pub terrain_lookup : List ℕ → Float → Float → Reading
@@ -85,7 +106,7 @@ terrain_lookup map x y =
     let coord_scale = of_count (terrain_size - 2) ⊗ decimal 5 1 in
     let mx = (x ⊕ decimal 1 0) ⊗ coord_scale in
     let my = (y ⊕ decimal 1 0) ⊗ coord_scale in
-    let place = map_place (whole_part mx) (whole_part my) in
+    let place = start_in map_table (whole_part mx) (whole_part my) in
     let near = interpolate_wave float_of_u8 0 map place.flat (mx ⊖ whole_float mx) in
     let far = interpolate_wave float_of_u8 0 map (place.flat + terrain_size) (mx ⊖ whole_float mx) in
     record {
@@ -93,23 +114,37 @@ terrain_lookup map x y =
       holds = place.holds;
     }
 
--- The bank, read as three terrains of 64 waves; "flat is held at .. 25,209 (bank)".
+-- The bank, read as three terrains of 64 waves.
 abbrev pub num_waves : ℕ
 num_waves = 64
 
+-- Past 25,209 the Rust would read past the bank's end. "On the bank x stops at 62 and y at 128": the wave and the sample.
 abbrev pub bank_edge : ℕ
 bank_edge = 25209
 
--- "Bank reading: flat = 8448 times (7 - layer) + 132 times x's whole part + y's".
-abbrev pub bank_place : ℕ → ℕ → ℕ → Start
-bank_place number x y = held_place of_bank bank_edge (num_waves * wave_length * number + wave_length * x + y)
+abbrev pub wave_reach : ℕ
+wave_reach = 62
+
+abbrev pub sample_reach : ℕ
+sample_reach = 128
+
+-- "Bank reading: flat = 8448 times (7 - layer) + 132 times x's whole part + y's"; held "in the bank chosen".
+abbrev pub bank_table : ℕ → Table
+bank_table number =
+    record {
+      flat = λ (x y : ℕ). num_waves * wave_length * number + wave_length * x + y;
+      edge = bank_edge;
+      x_reach = wave_reach;
+      y_reach = sample_reach;
+      hold = of_bank;
+    }
 
 -- `terrain_lookup_wt`: "it reads flat to +2 and +132 to +134"; "x picks the wave and y the sample".
 unfoldable pub terrain_lookup_wt : List ℤ → Float → Float → ℕ → Reading
 terrain_lookup_wt bank x y number =
     let sample = (y ⊕ decimal 1 0) ⊗ decimal 5 1 ⊗ table_size_f in
     let wt = (x ⊕ decimal 1 0) ⊗ decimal 5 1 ⊗ of_count (num_waves - 1) in
-    let place = bank_place number (whole_part wt) (whole_part sample) in
+    let place = start_in (bank_table number) (whole_part wt) (whole_part sample) in
     let near = interpolate_integrated_wave float_of_i16 (pos 0) bank place.flat (sample ⊖ whole_float sample) in
     let far = interpolate_integrated_wave float_of_i16 (pos 0) bank (place.flat + wave_length) (sample ⊖ whole_float sample) in
     record {

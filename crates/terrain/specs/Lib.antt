@@ -1,4 +1,5 @@
+pub mod CutOff
+pub mod Edges
 pub mod Heights
 pub mod Held
 pub mod Layers
-pub mod Reach

@@ -2,14 +2,13 @@
 // Based on MIT-licensed code (c) 2021 by Emilie Gillet (emilie.o.gillet@gmail.com)
 #![tactic(auto)]
 
-ghost use Rattle.std.specs.Prelude.{◌≡◌, ◌+◌, ◌≤◌, min, length, Some};
+ghost use Rattle.std.specs.Prelude.{◌≡◌, ◌+◌, ◌≤◌, min, length};
 ghost use Rattle.words.specs.Binary32.{◌⊖◌};
 ghost use Rattle.words.specs.Parts.{whole_part, whole_float};
-ghost use Rattle.utils.specs.Holds.{of_reading};
 ghost use Rattle.terrain.specs.Layers.{Lent, Lent-prop, num_terrains, layer_top};
-ghost use Rattle.terrain.specs.Reach.{reach};
+ghost use Rattle.terrain.specs.CutOff.{cut_off};
 ghost use Rattle.terrain.specs.Held.{start_of, reading_of};
-ghost use Rattle.terrain.specs.Heights.{map_length, held_place, squash_of, terrain0, terrain1, terrain2, terrain3, terrain4, terrain_lookup, terrain_lookup_wt, unheld, terrain_of};
+ghost use Rattle.terrain.specs.Heights.{map_length, start_in, map_table, bank_table, squash_of, terrain0, terrain1, terrain2, terrain3, terrain4, terrain_lookup, terrain_lookup_wt, unheld, terrain_of};
 
 use oscillator::bank::{TABLE_SIZE_F, WAVE_LENGTH};
 use oscillator::wavetable_oscillator::{interpolate_integrated_wave, interpolate_wave};
@@ -72,8 +71,15 @@ pub const MAP_EDGE: usize = 4030;
 
 pub const BANK_EDGE: usize = 25209;
 
+// Where whole parts stop if a reading would leave its table: x and y of the map, and the bank's wave and sample.
+const MAP_REACH: usize = 62;
+
+const WAVE_REACH: usize = 62;
+
+const SAMPLE_REACH: usize = 128;
+
 // Where the whole part of a coordinate is cut off: above every edge.
-const REACH: usize = 65535;
+const CUT_OFF: usize = 65535;
 
 // The Sine function only works for a positive argument.
 // Thus, all calls to Sine include a positive offset of the argument!
@@ -140,10 +146,10 @@ fn terrain_4(table: &[f32; 641], x: f32, y: f32) -> f32
 // The fraction is taken against the true whole part.
 #[tactic(auto, using(crate::proofs::Places::whole_cut, crate::proofs::Places::fraction_within))]
 fn coordinate_at(x: f32) -> Coordinate
-    ensures whole_value { result.whole ≡ min (whole_part x) reach }
+    ensures whole_value { result.whole ≡ min (whole_part x) cut_off }
     ensures fraction_value { result.fraction ≡ x ⊖ whole_float x }
 {
-    let part = words::held_part(x, REACH);
+    let part = words::held_part(x, CUT_OFF);
     if part.held {
         Coordinate {
             whole: part.whole,
@@ -157,14 +163,38 @@ fn coordinate_at(x: f32) -> Coordinate
     }
 }
 
-// `flat`, held at the edge of a surface.
-fn held_place(surface: Surface, edge: usize, flat: usize) -> Place
-    ensures { start_of result ≡ held_place (of_reading (Some surface)) edge flat }
+// Where a reading of the map starts: past the edge x and y are held apart.
+#[tactic(auto, using(crate::proofs::Places::start_past, crate::proofs::Places::start_within))]
+fn map_place(x: usize, y: usize) -> Place
+    requires x_cut { x ≤ cut_off }
+    requires y_cut { y ≤ cut_off }
+    ensures { start_of result ≡ start_in map_table x y }
 {
-    if flat > edge {
+    let flat = TERRAIN_SIZE * y + x;
+    if flat > MAP_EDGE {
         Place {
-            flat: edge,
-            held: Some(surface),
+            flat: TERRAIN_SIZE * y.min(MAP_REACH) + x.min(MAP_REACH),
+            held: Some(Surface::Map),
+        }
+    } else {
+        Place { flat, held: None }
+    }
+}
+
+// Where a reading of the bank starts: past the edge x and y are held apart, in the terrain that `number` picks.
+#[tactic(auto, using(crate::proofs::Places::start_past, crate::proofs::Places::start_within))]
+fn bank_place(number: usize, x: usize, y: usize) -> Place
+    requires few { number ≤ 2 }
+    requires x_cut { x ≤ cut_off }
+    requires y_cut { y ≤ cut_off }
+    ensures { start_of result ≡ start_in (bank_table number) x y }
+{
+    let first = NUM_WAVES * WAVE_LENGTH * number;
+    let flat = first + WAVE_LENGTH * x + y;
+    if flat > BANK_EDGE {
+        Place {
+            flat: first + WAVE_LENGTH * x.min(WAVE_REACH) + y.min(SAMPLE_REACH),
+            held: Some(Surface::Bank),
         }
     } else {
         Place { flat, held: None }
@@ -172,14 +202,14 @@ fn held_place(surface: Surface, edge: usize, flat: usize) -> Place
 }
 
 // The map's height at a point. From near to far the line is written out, here and for the bank, as the source has it.
-#[tactic(auto, using(crate::proofs::Places::place_most))]
+#[tactic(auto, using(crate::proofs::Edges::map_inside))]
 fn terrain_lookup(map: &[u8], x: f32, y: f32) -> Height
     requires { length map.now ≡ map_length }
     ensures { reading_of result ≡ terrain_lookup map.now x y }
 {
     let cx = coordinate_at((x + 1.0) * COORD_SCALE);
     let cy = coordinate_at((y + 1.0) * COORD_SCALE);
-    let place = held_place(Surface::Map, MAP_EDGE, TERRAIN_SIZE * cy.whole + cx.whole);
+    let place = map_place(cx.whole, cy.whole);
     let near = interpolate_wave(map, place.flat, cx.fraction);
     let far = interpolate_wave(map, place.flat + TERRAIN_SIZE, cx.fraction);
     Height {
@@ -198,18 +228,14 @@ fn unheld(value: f32) -> Height
 impl Ground<'_> {
     // Lookup from the wavetable data re-interpreted as a terrain. :facepalm:
     // `number` picks one of the three terrains in the bank.
-    #[tactic(auto, using(crate::proofs::Places::place_most))]
+    #[tactic(auto, using(crate::proofs::Edges::bank_inside))]
     fn terrain_lookup_wt(&self, x: f32, y: f32, number: usize) -> Height
         requires { number ≤ 2 }
         ensures { reading_of result ≡ terrain_lookup_wt self.now.bank.now x y number }
     {
         let sample = coordinate_at((y + 1.0) * 0.5 * TABLE_SIZE_F);
         let wt = coordinate_at((x + 1.0) * 0.5 * LAST_WAVE);
-        let place = held_place(
-            Surface::Bank,
-            BANK_EDGE,
-            NUM_WAVES * WAVE_LENGTH * number + WAVE_LENGTH * wt.whole + sample.whole,
-        );
+        let place = bank_place(number, wt.whole, sample.whole);
         let near = interpolate_integrated_wave(self.bank, place.flat, sample.fraction);
         let far = interpolate_integrated_wave(self.bank, place.flat + WAVE_LENGTH, sample.fraction);
         Height {

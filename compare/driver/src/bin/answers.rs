@@ -26,7 +26,7 @@
 //! HELD above 0. All others are answered by the original: samples and kept words are its own, HELD and
 //! KINDS are 0, and the RENDERED of a call follows from its fresh renderings before and after the call.
 //! First come the scores of the two engines, those that hold last; then the plain oscillator's, in the same
-//! order.
+//! order; then the smallest that lie past the edge of the map or of the bank.
 
 use std::collections::BTreeMap;
 use std::fs;
@@ -34,7 +34,7 @@ use std::path::Path;
 
 use driver::cases::{self, Case};
 use driver::random::Random;
-use driver::{changes, original};
+use driver::{changes, edges, original};
 use model::score::{row_within, within};
 use model::take::{Change, Row, demand_3, fresh, report, restarts};
 use model::voice::Block;
@@ -225,6 +225,22 @@ fn brightest() -> Entry {
     Entry { case, seed: 2, calls }
 }
 
+/// The smallest scores past the edges of map and bank. Their last row, which holds, gets a little less harmonics, is
+/// put in again behind that, and the first of the two is taken out: edit and removal hold, since the path before is the same.
+fn past_edges() -> impl Iterator<Item = Entry> {
+    edges::smallest().into_iter().zip(3..).map(|(score, seed)| {
+        let edges::EdgeScore { instrument, frames, rows, .. } = score;
+        let (bank, map) = tables(seed, instrument == 2);
+        let last = rows.len() / ROW_WORDS - 1;
+        let row: [u32; ROW_WORDS] = std::array::from_fn(|i| rows[last * ROW_WORDS + i]);
+        let [note, timbre, morph, harmonics, restart] = row;
+        let less = [note, timbre, morph, harmonics - 0x000d_0000, restart];
+        let last = last as u64;
+        let calls = vec![Change::Edit(last, less), Change::Insert(last + 1, row), Change::Remove(last)];
+        Entry { case: Case { instrument, rate: 32_000, frames, bank, map, rows }, seed, calls }
+    })
+}
+
 /// The first random entry with edits alone that `rendered` has an answer to.
 fn answered(random: &mut Random, instrument: u32, rows: Rows, rendered: Rendered) -> Entry {
     loop {
@@ -312,13 +328,18 @@ fn main() {
     for _ in 1..HOLDING_OSCILLATOR {
         entries.push((answered(&mut random, 3, cases::brightening_rows, by_model), by_either));
     }
+    let mut random = Random::new(2);
+    let mut answers: Vec<_> =
+        entries.into_iter().map(|(entry, rendered)| finished(&mut random, entry, rendered)).collect();
+    for entry in past_edges() {
+        let lines = printed(&entry, by_either).expect("the model has an answer");
+        answers.push((entry, lines));
+    }
 
-    let mut words_of_list = vec![entries.len() as u32];
+    let mut words_of_list = vec![answers.len() as u32];
     let mut stdout = String::new();
     let mut tally: BTreeMap<String, usize> = BTreeMap::new();
-    let mut random = Random::new(2);
-    for (entry, rendered) in entries {
-        let (entry, lines) = finished(&mut random, entry, rendered);
+    for (entry, lines) in answers {
         assert!(accepted(&entry), "every call is accepted");
         words_of_list.extend(words(&entry));
         stops(&entry, &lines).into_iter().for_each(|stop| *tally.entry(stop).or_default() += 1);

@@ -50,6 +50,7 @@ pub fn library_is_fresh(case: &Case, fresh: &[Row], mut lent: Lent, tally: &mut 
     let samples = 2 * fresh.len() as u64 * u64::from(case.frames);
     tally.add("fresh: samples of the library, equal to the same (out and aux)", samples);
     holds::add("fresh", case, fresh, tally);
+    holds::add_edges("fresh", case, fresh, tally);
 }
 
 /// Puts words at the beginning of others.
@@ -121,6 +122,7 @@ pub fn one_change(case: &Case, change: &Change, found: &mut Lent, expected: &mut
             let stop = changes::stop(change, expected.score(), rows.len() as u64);
             tally.add(format!("{name}: accepted, {rendered}, stopped at {stop}"), 1);
             holds::add(name, case, &rows, tally);
+            holds::add_edges("changes", case, &rows, tally);
         }
         Err(refusal) => tally.add(format!("{name}: {}", refused(refusal)), 1),
     }
@@ -166,6 +168,7 @@ pub fn lists(mut case: Case, random: &mut Random, tally: &mut Tally) {
     same("answer of a fresh rendering after the list", &case, answer, take::report(&before));
     same_take("fresh rendering after the list", &case, &found.take, &again);
     tally.add("lists equal to a fresh rendering", 1);
+    holds::add_edges("lists", &case, &before, tally);
     list_is_original(&case, &found.take, tally);
 }
 

@@ -1,13 +1,15 @@
 //! Single scores with a known outcome, on the model, the original and the library.
 
 use driver::cases::{self, Case};
+use driver::edges::{self, EdgeScore};
 use driver::library;
 use driver::original::Original;
 use driver::random::Random;
-use model::take::{Change, report};
-use model::{Answer, Counts, KEPT_WORDS, ROW_WORDS, floats, program, wavetable};
+use model::take::{Change, Row, report};
+use model::{Answer, Counts, KEPT_WORDS, ROW_WORDS, Take, floats, program, wavetable};
 
 use crate::calls::{one_change, rendering};
+use crate::holds;
 use crate::tally::{Tally, same, same_start};
 use crate::voices::model_is_original;
 use crate::writer::{Lent, writing};
@@ -24,31 +26,28 @@ fn nothing_held(rows: u64) -> Answer {
     Answer::Rendered(rows, 0, NO_COUNTS)
 }
 
-/// The smallest scores found in whose last row the original panics: instrument, frames, what is held, rows.
-fn smallest_holds() -> [(u32, u32, Counts, Vec<u32>); 5] {
+/// The smallest scores found in whose last row the original panics, but those of map and bank: instrument, frames, what
+/// is held, rows.
+fn smallest_holds() -> [(u32, u32, Counts, Vec<u32>); 3] {
     const ONE: u32 = 0x3f80_0000;
-    const NOTE_120: u32 = 0x42f0_0000;
-    let climbing = [NOTE_120, 0, 0, ONE, 0];
-    let map = [
-        [NOTE_120, ONE, ONE, ONE, 0],
-        [NOTE_120, ONE, ONE, ONE, 0],
-        [NOTE_120, ONE, 0x3f00_0000, ONE, 0],
-        [0, ONE, 0, ONE, 0],
-    ];
-    let bank = [
-        [NOTE_120, ONE, 0x3f00_0000, 0x3f20_0000, 0],
-        [0x41a0_0000, ONE, ONE, 0x3f20_0000, 0],
-        [NOTE_120, ONE, 0x3f00_0000, 0x3f20_0000, 0],
-        [0x4248_0000, ONE, ONE, 0x3f40_0000, 0],
-    ];
+    let climbing = [0x42f0_0000, 0, 0, ONE, 0];
     let brightening = [[0x4270_0000, 0x3f05_0000, 0, 0, 0], [0x4270_0000, ONE, 0, 0, 0]];
     [
         (0, 78, Counts { level: 7, ..NO_COUNTS }, steady(54, climbing)),
         (0, 10, Counts { level: 10, ..NO_COUNTS }, steady(65, climbing)),
-        (2, 1, Counts { map: 1, ..NO_COUNTS }, map.concat()),
-        (1, 2, Counts { bank: 1, ..NO_COUNTS }, bank.concat()),
         (3, 52, Counts { wave_position: 1, ..NO_COUNTS }, brightening.concat()),
     ]
+}
+
+/// A score whose last row alone holds something: these counts. Gives that row.
+fn held_at_last(case: &Case, counts: Counts, random: &mut Random, tally: &mut Tally) -> Row {
+    let mut rows = model_is_original(case, tally);
+    let (before, last) = rows.split_at(rows.len() - 1);
+    let held = Answer::Rendered(1, counts.numbers().iter().sum(), counts);
+    let known = [nothing_held(before.len() as u64), held];
+    same("held before and in the last row", case, [before, last].map(report), known);
+    rendering(case, case.lent(random, 0), tally);
+    rows.remove(rows.len() - 1)
 }
 
 /// Known facts about single scores, on the model, the original and the library.
@@ -71,12 +70,22 @@ pub fn facts(published: &[i16], random: &mut Random, tally: &mut Tally) {
 
     for (instrument, frames, counts, rows) in smallest_holds() {
         let case = Case { rate: 32_000, ..plain(instrument, frames, rows) };
-        let rows = model_is_original(&case, tally);
-        let (before, last) = rows.split_at(rows.len() - 1);
-        let held = Answer::Rendered(1, counts.numbers().iter().sum(), counts);
-        let known = [nothing_held(before.len() as u64), held];
-        same("held before and in the last row", &case, [before, last].map(report), known);
-        rendering(&case, case.lent(random, 0), tally);
+        held_at_last(&case, counts, random, tally);
+    }
+    for EdgeScore { edge, instrument, frames, rows, entry, sample } in edges::smallest() {
+        let mut case = Case { rate: 32_000, ..plain(instrument, frames, rows) };
+        let (map, bank) = if instrument == 2 { (1, 0) } else { (0, 1) };
+        let last = held_at_last(&case, Counts { map, bank, ..NO_COUNTS }, random, tally);
+        same("the edge of the held reading", &case, &holds::edges(&last.block.holds)[0], &(edge.to_string(), 1));
+        case.map.fill(0);
+        case.bank.fill(0);
+        if instrument == 2 {
+            case.map[entry] = 255
+        } else {
+            case.bank[entry] = 1024
+        }
+        let last = held_at_last(&case, Counts { map, bank, ..NO_COUNTS }, random, tally);
+        same(&format!("the last sample by entry {entry}"), &case, last.block.out.last(), Some(&sample));
     }
 
     // The oscillator's waveform comes to 63 and stays there as long as the rows do.
@@ -146,6 +155,7 @@ pub fn facts(published: &[i16], random: &mut Random, tally: &mut Tally) {
 
     splices(plain, random, tally);
     kinds(plain, random, tally);
+    whole_parts(plain, random, tally);
     writings(tally);
 
     // Kept words can stay subnormal.
@@ -226,20 +236,21 @@ fn splices(plain: impl Fn(u32, u32, Vec<u32>) -> Case, random: &mut Random, tall
     }
 }
 
-/// A change of a junk take that keeps zeros, but for these floats, before the changed row.
+/// A change of a junk take that keeps zeros, but for these floats, before the changed row; what it leaves.
 fn change_from(
     floats: &[(usize, f32)],
     case: &Case,
     change: &Change,
     random: &mut Random,
     tally: &mut Tally,
-) -> Answer {
+) -> (Answer, Take) {
     let frames = case.frames as usize;
     let mut lent = case.lent_with(random, [ROW_WORDS, frames, frames, KEPT_WORDS]);
     let state = &mut lent.take.kept[(change.position() as usize - 1) * KEPT_WORDS..][..KEPT_WORDS];
     state.fill(0);
     floats.iter().for_each(|(at, x)| state[*at] = x.to_bits());
-    one_change(case, change, &mut lent.clone(), &mut lent, tally)
+    let answer = one_change(case, change, &mut lent.clone(), &mut lent, tally);
+    (answer, lent.take)
 }
 
 /// Edits, insertions and removals that render one row of 24 frames from a known state, and what it holds.
@@ -287,7 +298,7 @@ fn kinds(plain: impl Fn(u32, u32, Vec<u32>) -> Case, random: &mut Random, tally:
             (vec![other, row], Change::Edit(1, row), nothing_held(0)),
         ] {
             let case = plain(instrument, 24, rows.concat());
-            let found = change_from(floats, &case, &change, random, tally);
+            let (found, _) = change_from(floats, &case, &change, random, tally);
             same(&format!("{change:08x?} from {floats:?}"), &case, found, answer);
         }
     }
@@ -296,9 +307,79 @@ fn kinds(plain: impl Fn(u32, u32, Vec<u32>) -> Case, random: &mut Random, tally:
     let case = plain(0, 24, steady(6, low));
     for (position, rows) in [(1, 5), (3, 3), (5, 1)] {
         let edit = Change::Edit(position, other);
-        let found = change_from(&[(4, 1e30), (5, 1e30)], &case, &edit, random, tally);
+        let (found, _) = change_from(&[(4, 1e30), (5, 1e30)], &case, &edit, random, tally);
         let counts = Counts { wave_position: 24 * rows, ..NO_COUNTS };
         same("x and y in several rows", &case, found, Answer::Rendered(rows, 24 * rows, counts));
+    }
+}
+
+/// Edits from states that bring the first frame's readings to chosen whole parts of x and y, and where these must
+/// start. The tables are zero, but that a reading which starts there is 1 whatever its fractions.
+///
+/// The path stands at (0, 1) and hardly moves, so that x is the offset and y the amplitude. Each goes the first of many
+/// steps to its target, the amplitude two. Layers 5 to 7 are banks 2 to 0, layer 8 is the map.
+fn whole_parts(plain: impl Fn(u32, u32, Vec<u32>) -> Case, random: &mut Random, tally: &mut Tally) {
+    const FAR: u64 = 100_000;
+    for (layer, [x, y], [start_x, start_y]) in [
+        // Past the end each whole part is held by itself. Document 02: flat 4,032 becomes 3,968.
+        (8, [0, 63], [0, 62]),
+        (8, [30, 63], [30, 62]),
+        (8, [62, 63], [62, 62]),
+        (8, [63, 62], [62, 62]),
+        (8, [63, 63], [62, 62]),
+        (8, [4_031, 0], [62, 0]),
+        (8, [10, FAR], [10, 62]),
+        (8, [FAR, 10], [62, 10]),
+        (8, [FAR, FAR], [62, 62]),
+        (5, [63, 0], [62, 0]),
+        (5, [63, 100], [62, 100]),
+        (5, [62, 130], [62, 128]),
+        (5, [63, 131], [62, 128]),
+        (5, [5, 8_000], [5, 128]),
+        (5, [FAR, FAR], [62, 128]),
+        (6, [200, 50], [62, 50]),
+        (6, [10, 20_000], [10, 128]),
+        (6, [FAR, FAR], [62, 128]),
+        (7, [200, 3], [62, 3]),
+        (7, [7, 30_000], [7, 128]),
+        (7, [FAR, FAR], [62, 128]),
+        // Over a row's, a wave's or a bank's end, but not past the last: as the Rust reads.
+        (8, [62, 62], [62, 62]),
+        (8, [63, 0], [63, 0]),
+        (8, [63, 61], [63, 61]),
+        (8, [1_000, 5], [1_000, 5]),
+        (8, [4_030, 0], [4_030, 0]),
+        (5, [62, 129], [62, 129]),
+        (5, [5, 200], [5, 200]),
+        (6, [63, 50], [63, 50]),
+        (6, [100, 100], [100, 100]),
+        (7, [190, 3], [190, 3]),
+    ] {
+        let (instrument, harmonics): (u32, f32) = if layer == 8 { (2, 1.0) } else { (1, [0.7, 0.7, 0.9][layer - 5]) };
+        let row = [0, 0, 0, harmonics.to_bits(), 0];
+        let mut case = Case { rate: 192_000, ..plain(instrument, 128, steady(2, [0x4270_0000, 0, 0, 0, 0])) };
+        case.bank.fill(0);
+        let scale = if layer == 8 {
+            case.map.fill(0);
+            let start = 64 * start_y + start_x;
+            [0, 1, 64, 65].iter().for_each(|next| case.map[start + next] = 128);
+            [31.0, 31.0]
+        } else {
+            let start = 8_448 * (7 - layer) + 132 * start_x + start_y;
+            [0, 132].iter().for_each(|wave| case.bank[start + wave..][..3].copy_from_slice(&[-1024, 0, 1024]));
+            [31.5, 64.0]
+        };
+        // From where the first step of 128 comes to the middle of x, and the first two of 256 about that of y.
+        let middle = |whole: u64, scale: f32| (whole as f32 + 0.5) / scale - 1.0;
+        let offset = (128.0 * middle(x, scale[0]) + 1.0) / 127.0;
+        let amplitude = (256.0 * middle(y, scale[1]) - 1.5 * 0.1) / 254.5;
+        let index = f32::min(harmonics * 1.05, 1.0) * (if layer == 8 { 9.0 } else { 8.0 } - 1.0001);
+        let floats = [(1, 1.0), (3, amplitude), (4, offset), (5, index)];
+        let (_, take) = change_from(&floats, &case, &Change::Edit(1, row), random, tally);
+        let fraction = index - index.floor();
+        let expected = if layer as f32 == index.floor() { 1.0 - fraction } else { fraction };
+        let what = format!("the reading of layer {layer} at ({x}, {y})");
+        same(&what, &case, f32::from_bits(take.out[128]), expected);
     }
 }
 

@@ -13,6 +13,11 @@ const SEVERAL: &str = "several kinds in one frame";
 const X_AND_Y: &str = "x and y in one frame";
 const MAP_AND_BANK: &str = "map and bank in one block";
 
+/// What is read, and what may be past its reach there. The last name is for readings, of any of these three, that start
+/// elsewhere than if flat itself were held.
+const TABLES: [&str; 4] = ["map", "bank 0", "bank 1", "bank 2"];
+const PAST: [&str; 4] = ["x alone", "y alone", "x and y", "elsewhere"];
+
 /// What each instrument holds in some fresh rendering, and what in some edit, insertion and removal.
 const REACHED: [(&[&str], &[&str]); 4] = [
     (&["level"], &["phase", "wave position", "level", SEVERAL, X_AND_Y]),
@@ -21,8 +26,21 @@ const REACHED: [(&[&str], &[&str]); 4] = [
     (&["wave position"], &["phase", "wave position", SEVERAL]),
 ];
 
+/// The edges that random fresh renderings have to go past, before and after a list of calls, by instrument.
+const FRESH_EDGES: [(usize, &str); 4] =
+    [(1, "bank 2, x alone"), (2, "bank 2, x alone"), (2, "map, y alone"), (2, "map, elsewhere")];
+
 fn name(call: &str, instrument: usize, kind: &str) -> String {
     format!("{call}: held on instrument {instrument}, {kind}")
+}
+
+/// The name of the model's held readings that the original judged.
+pub fn judged(edge: &str) -> String {
+    format!("reading: held as the original reads at the edge, {edge}")
+}
+
+fn all_edges(tables: &[&str]) -> Vec<String> {
+    tables.iter().flat_map(|table| PAST.map(|past| format!("{table}, {past}"))).collect()
 }
 
 /// The holds that random inputs have not met since a tally stood so: the comparison says nothing of them.
@@ -33,21 +51,52 @@ pub fn missed(since: &Tally, tally: &Tally) -> Vec<String> {
             names.extend(kinds.iter().map(|kind| name(call, instrument, kind)));
         }
     }
+    for calls in ["fresh", "lists"] {
+        names.extend(FRESH_EDGES.iter().map(|(instrument, edge)| name(calls, *instrument, edge)));
+    }
+    names.extend(all_edges(&TABLES[1..]).iter().map(|edge| name("changes", 1, edge)));
+    names.extend(all_edges(&TABLES).iter().map(|edge| name("changes", 2, edge)));
+    names.extend(all_edges(&TABLES).iter().map(|edge| judged(edge)));
     names.retain(|name| tally.0.get(name) == since.0.get(name));
     names
+}
+
+/// What rows hold together.
+fn of_rows(rows: &[Row]) -> Holds {
+    let mut holds = Holds::default();
+    rows.iter().for_each(|row| holds.add(&row.block.holds));
+    holds
 }
 
 /// Adds what the rows of an accepted call held.
 pub fn add(call: &str, case: &Case, rows: &[Row], tally: &mut Tally) {
     let Answer::Rendered(_, held, counts) = report(rows) else { unreachable!() };
-    let mut holds = Holds::default();
-    rows.iter().for_each(|row| holds.add(&row.block.holds));
+    let holds = of_rows(rows);
     let both = rows.iter().filter(|row| row.block.counts.map > 0 && row.block.counts.bank > 0).count() as u64;
     tally.add(format!("{call}: held"), held);
     let besides = [(SEVERAL, holds.several), (X_AND_Y, holds.x_and_y), (MAP_AND_BANK, both)];
     for (kind, n) in NAMES.into_iter().zip(counts.numbers()).chain(besides).filter(|(_, n)| *n > 0) {
         tally.add(name(call, case.instrument as usize, kind), n);
     }
+}
+
+/// Adds where the held readings of rows were past the edges of map and banks.
+pub fn add_edges(calls: &str, case: &Case, rows: &[Row], tally: &mut Tally) {
+    let holds = of_rows(rows);
+    for (edge, n) in edges(&holds) {
+        tally.add(name(calls, case.instrument as usize, &edge), n);
+    }
+}
+
+/// The held readings by table and by what was past its reach, as far as there are any.
+pub fn edges(holds: &Holds) -> Vec<(String, u64)> {
+    let [first, second, third] = holds.banks;
+    let mut edges = Vec::new();
+    for (table, edge) in TABLES.into_iter().zip([holds.map, first, second, third]) {
+        let held = PAST.into_iter().zip([edge.x, edge.y, edge.x_and_y, edge.elsewhere]);
+        edges.extend(held.filter(|(_, n)| *n > 0).map(|(past, n)| (format!("{table}, {past}"), n)));
+    }
+    edges
 }
 
 /// The six numbers of any answer go together. A frame of instruments 0 and 3 counts once in `held` and in each

@@ -9,6 +9,7 @@
 mod calls;
 mod facts;
 mod holds;
+mod readings;
 mod tally;
 mod texts;
 mod voices;
@@ -22,6 +23,7 @@ use driver::original;
 use driver::random::Random;
 
 use calls::{at_limits, junk_lists, library_is_fresh, lists, rendering};
+use readings::readings_are_original;
 use tally::Tally;
 use texts::{programs, texts};
 use voices::{model_is_original, model_is_original_on_any_state};
@@ -40,7 +42,8 @@ fn main() {
     facts::facts(&published, random, &mut tally);
     let known = tally.clone();
     for _ in 0..1500 * scale {
-        let case = Case::random(random, &published, 90);
+        let make = if random.once_in(8) { Case::leaving } else { Case::random };
+        let case = make(random, &published, 90);
         let fresh = model_is_original(&case, &mut tally);
         library_is_fresh(&case, &fresh, case.lent(random, 0), &mut tally);
     }
@@ -48,11 +51,15 @@ fn main() {
         let case = Case::random(random, &published, 1);
         model_is_original_on_any_state(&case, random, &mut tally);
     }
+    for _ in 0..10_000 * scale {
+        readings_are_original(&published, random, &mut tally);
+    }
     for _ in 0..1000 * scale {
         let case = Case::random(random, &published, 60);
         rendering(&case, case.lent(random, 0), &mut tally);
         lists(Case::random(random, &published, 20), random, &mut tally);
         lists(Case::whole_periods(random, &published, 60), random, &mut tally);
+        lists(Case::leaving(random, &published, 20), random, &mut tally);
         junk_lists(Case::random(random, &published, 20), random, &mut tally);
         for _ in 0..4 {
             let case = Case::random(random, &published, 6);

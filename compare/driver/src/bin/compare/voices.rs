@@ -35,7 +35,7 @@ pub fn model_is_original(case: &Case, tally: &mut Tally) -> Vec<Row> {
             "level z"
         } else if holds.waveform > 0 {
             "waveform"
-        } else if holds.map > 0 {
+        } else if holds.map.held > 0 {
             "map"
         } else {
             "bank"
@@ -79,5 +79,5 @@ pub fn model_is_original_on_any_state(case: &Case, random: &mut Random, tally: &
 
 /// Did the block hold something of which the original has no reading?
 fn always_panics(holds: &Holds) -> bool {
-    holds.z + holds.waveform + holds.map + holds.bank > 0
+    holds.z + holds.waveform + holds.map.held + holds.bank() > 0
 }

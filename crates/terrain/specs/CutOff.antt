@@ -2,5 +2,5 @@
 use Rattle.std.specs.Prelude.{ℕ}
 
 -- Whole parts of coordinates are cut off above every edge: that moves no place.
-abbrev pub reach : ℕ
-reach = 65535
+abbrev pub cut_off : ℕ
+cut_off = 65535
