@@ -1,13 +1,13 @@
 // Calls the C functions by position, with arguments that tell them apart, and prints what they return, what they write to `first`, `second`
 // and `counts`, and every lent word and byte. A contract speaks of a parameter by its name, C binds it by its place: two parameters that change
 // places show here.
+// Each word is a print of its own, and one that the system does not take is let go.
 #![tactic(auto)]
 
 use oscillator::bank::BANK_LENGTH;
 use refusals::Call;
 use score::rows::ROW_WORDS;
 use std::fmt::Display;
-use std::io;
 use terrain::MAP_LENGTH;
 use voice::{KEPT_WORDS, OSCILLATOR, TERRAIN_WITH_MAP, WAVETABLE};
 
@@ -179,13 +179,7 @@ fn perform(
 }
 
 // Calls, and writes a line of what was returned and written to the results, the rows that the call may change, and the take.
-fn turn(
-    rt: &impl Print,
-    words: &mut Words,
-    patch: Patch<'_>,
-    count: u64,
-    call: Call,
-) -> io::Result<()> {
+fn turn(rt: &impl Print, words: &mut Words, patch: Patch<'_>, count: u64, call: Call) {
     let mut results = Results {
         first: UNWRITTEN,
         second: UNWRITTEN,
@@ -193,46 +187,56 @@ fn turn(
     };
     let number = perform(words, patch, count, call, &mut results);
     let name = call.name();
-    print!(rt; "{name} {number} {} {}", results.first, results.second)?;
-    say_numbers(rt, &results.counts)?;
+    say_values(rt, name, number, results.first, results.second);
+    say_numbers(rt, &results.counts);
     if !matches!(call, Call::Render) {
-        say_words(rt, "rows", &words.rows)?;
+        say_words(rt, "rows", &words.rows);
     }
-    say_words(rt, "out", &words.out)?;
-    say_words(rt, "aux", &words.aux)?;
-    say_words(rt, "kept", &words.kept)
+    say_words(rt, "out", &words.out);
+    say_words(rt, "aux", &words.aux);
+    say_words(rt, "kept", &words.kept);
+}
+
+// Writes a call's name, and what it returned and wrote to its two results.
+fn say_values(rt: &impl Print, name: &str, number: u32, first: u64, second: u64) {
+    let _ = rt.print(name);
+    for value in [u64::from(number), first, second] {
+        let _ = print!(rt; " {value}");
+    }
 }
 
 // Writes each number with a space before it, and ends the line.
-fn say_numbers<T: Display>(rt: &impl Print, numbers: &[T]) -> io::Result<()> {
+fn say_numbers<T: Display>(rt: &impl Print, numbers: &[T]) {
     for number in numbers {
-        print!(rt; " {number}")?;
+        let _ = print!(rt; " {number}");
     }
-    println!(rt)
+    let _ = println!(rt);
 }
 
 // Writes a line of words.
-fn say_words(rt: &impl Print, text: &str, words: &[u32]) -> io::Result<()> {
-    rt.print(text)?;
-    say_numbers(rt, words)
+fn say_words(rt: &impl Print, text: &str, words: &[u32]) {
+    let _ = rt.print(text);
+    say_numbers(rt, words);
 }
 
-fn read(rt: &impl Print, text: &[u8], rows: &mut [u32]) -> io::Result<()> {
+fn read(rt: &impl Print, text: &[u8], rows: &mut [u32]) {
     let mut first = UNWRITTEN;
     let mut second = UNWRITTEN;
     let number = retake_c::retake_read_score(text, rows, &mut first, &mut second);
-    println!(rt; "read {number} {first} {second}")?;
-    say_words(rt, "rows", rows)
+    say_values(rt, "read", number, first, second);
+    let _ = println!(rt);
+    say_words(rt, "rows", rows);
 }
 
-fn write(rt: &impl Print, rows: &[u32], count: u64, text: &mut [u8]) -> io::Result<()> {
+fn write(rt: &impl Print, rows: &[u32], count: u64, text: &mut [u8]) {
     let mut first = UNWRITTEN;
     let mut second = UNWRITTEN;
     let number = retake_c::retake_write_score(rows, count, text, &mut first, &mut second);
-    println!(rt; "write {number} {first} {second}")?;
-    println!(rt; "text")?;
-    rt.write_all(text)?;
-    println!(rt)
+    say_values(rt, "write", number, first, second);
+    let _ = println!(rt);
+    let _ = println!(rt; "text");
+    let _ = rt.write_all(text);
+    let _ = println!(rt);
 }
 
 // The score that was read, rendered and changed: an accepted edit, one past the end, one outside a limit; an accepted insertion, and one with no
@@ -243,7 +247,7 @@ fn play(
     read: [u32; 20],
     row: [u32; ROW_WORDS],
     state: [u32; KEPT_WORDS],
-) -> io::Result<()> {
+) {
     let mut words = Words {
         rows: read,
         out: [1; 16],
@@ -265,14 +269,14 @@ fn play(
         (3, Call::Remove(3)),
     ];
     for (count, call) in calls {
-        turn(rt, &mut words, patch, count, call)?;
+        turn(rt, &mut words, patch, count, call);
     }
     words.kept[..KEPT_WORDS].copy_from_slice(&state);
-    turn(rt, &mut words, patch, 3, Call::Edit(1, held))
+    turn(rt, &mut words, patch, 3, Call::Edit(1, held));
 }
 
 // The row words after an accepted text and a refused one.
-fn read_texts(rt: &impl Print) -> io::Result<[u32; 20]> {
+fn read_texts(rt: &impl Print) -> [u32; 20] {
     let mut rows = [0xffffffff; 20];
     read(
         rt,
@@ -282,7 +286,7 @@ fn read_texts(rt: &impl Print) -> io::Result<[u32; 20]> {
 3ecccccd 00000000 427c0000 3e4ccccd 3f266666
 ",
         &mut rows,
-    )?;
+    );
     read(
         rt,
         b"note timbre morph harmonics restart
@@ -290,32 +294,31 @@ fn read_texts(rt: &impl Print) -> io::Result<[u32; 20]> {
 42700000 00000000 3f000000 3f800000 00000002
 ",
         &mut rows,
-    )?;
-    Ok(rows)
+    );
+    rows
 }
 
 // A text that is longer than its score needs; a row outside its limits, and too short a text for it; and a text one byte too short.
-fn write_texts(rt: &impl Print, rows: &[u32]) -> io::Result<()> {
+fn write_texts(rt: &impl Print, rows: &[u32]) {
     let mut text = [b'.'; 175];
-    write(rt, rows, 3, &mut text)?;
-    write(rt, rows, 4, &mut text)?;
+    write(rt, rows, 3, &mut text);
+    write(rt, rows, 4, &mut text);
     let mut short = [b'.'; 170];
-    write(rt, rows, 3, &mut short)
+    write(rt, rows, 3, &mut short);
 }
 
 // A bank whose samples go up and down: 7919 i mod 32749.
-fn waves() -> [i16; BANK_LENGTH] {
-    let mut bank = [0; BANK_LENGTH];
+fn fill_waves(bank: &mut [i16; BANK_LENGTH]) {
     for (i, sample) in bank.iter_mut().enumerate() {
         *sample = (i * 7919 % 32749) as i16;
     }
-    bank
 }
 
-fn main(rt: HostRuntime) -> io::Result<()> {
-    let rows = read_texts(&rt)?;
-    write_texts(&rt, &rows)?;
-    let bank = waves();
+fn main(rt: HostRuntime) {
+    let rows = read_texts(&rt);
+    write_texts(&rt, &rows);
+    let mut bank = [0; BANK_LENGTH];
+    fill_waves(&mut bank);
     let map = [90u8; MAP_LENGTH];
     let wavetable = Patch {
         instrument: WAVETABLE,
@@ -324,7 +327,7 @@ fn main(rt: HostRuntime) -> io::Result<()> {
         map: b"",
     };
     let row = [0x42600000, 0x3f400000, 0x3e800000, 0x3f000000, 1];
-    play(&rt, wavetable, rows, row, HELD_WAVETABLE)?;
+    play(&rt, wavetable, rows, row, HELD_WAVETABLE);
     let terrain = Patch {
         instrument: TERRAIN_WITH_MAP,
         rate: 44100,
@@ -332,7 +335,7 @@ fn main(rt: HostRuntime) -> io::Result<()> {
         map: &map,
     };
     let row = [0x42500000, 0x3f100000, 0x3ec00000, 0x3f700000, 0];
-    play(&rt, terrain, rows, row, HELD_TERRAIN)?;
+    play(&rt, terrain, rows, row, HELD_TERRAIN);
     let oscillator = Patch {
         instrument: OSCILLATOR,
         rate: 96000,
@@ -340,5 +343,5 @@ fn main(rt: HostRuntime) -> io::Result<()> {
         map: b"",
     };
     let row = [0x42200000, 0x3e200000, 0x3f300000, 0x3ea00000, 0];
-    play(&rt, oscillator, rows, row, HELD_OSCILLATOR)
+    play(&rt, oscillator, rows, row, HELD_OSCILLATOR);
 }

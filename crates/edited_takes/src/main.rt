@@ -1,16 +1,18 @@
 // Lists of edits, insertions and removals on every instrument, and what the calls refuse. A line for each call: its kind, what it answered, and
 // which of the lent words (rows, out, aux, kept) are as they should be.
+// Each word is a print of its own, and one that the system does not take is let go.
 #![tactic(auto)]
+
+ghost use Rattle.std.specs.Prelude.{◌≤◌};
 
 use arrayvec::ArrayVec;
 use oscillator::bank::BANK_LENGTH;
 use refusals::Call;
-use rows::{Patch, Report, Settings, Take};
+use rows::{Patch, Report, Settings};
 use score::refusal::Refusal;
 use score::rows::ROW_WORDS;
-use std::io;
 use terrain::MAP_LENGTH;
-use trial::fill_tables;
+use trial::{fill_tables, perform};
 use voice::KEPT_WORDS;
 
 // ---- Calls
@@ -24,18 +26,27 @@ fn say_line(
     call: Call,
     answer: Result<Report, Refusal>,
     right: [(&str, bool); 4],
-) -> io::Result<()> {
+) {
     let name = call.name();
+    let _ = print!(rt; "{name}");
     match answer {
-        Ok(report) => print!(rt; "{name} done {} {}", report.rows, report.holds.held)?,
-        Err(refusal) => print!(rt; "{name} refused {refusal}")?,
+        Ok(report) => {
+            let _ = print!(rt; " done");
+            let _ = print!(rt; " {}", report.rows);
+            let _ = print!(rt; " {}", report.holds.held);
+        }
+        Err(refusal) => {
+            let _ = print!(rt; " refused");
+            let _ = print!(rt; " {}", refusal.number());
+            let _ = print!(rt; " {}", refusal.place());
+        }
     }
     for (name, right) in right {
         if right {
-            print!(rt; " {name}")?;
+            let _ = print!(rt; " {name}");
         }
     }
-    println!(rt)
+    let _ = println!(rt);
 }
 
 // ---- Lists
@@ -220,13 +231,7 @@ fn joined(words: &[u32], k: usize, fresh: &[u32], old: &[u32]) -> bool {
 }
 
 // A call and its line.
-fn turn(
-    rt: &impl Print,
-    patch: Patch<'_>,
-    call: Call,
-    score: &mut Score,
-    words: &mut Words,
-) -> io::Result<()> {
+fn turn(rt: &impl Print, patch: Patch<'_>, call: Call, score: &mut Score, words: &mut Words) {
     let old = *words;
     let answer = words.call(patch, score.len(), call);
     if answer.is_ok() {
@@ -247,33 +252,32 @@ fn turn(
             joined(&words.kept, n * KEPT_WORDS, &new.kept, &old.kept),
         ),
     ];
-    say_line(rt, call, answer, right)
+    say_line(rt, call, answer, right);
 }
 
-// The calls of a table, on a score of some rows.
-fn list(
-    rt: &impl Print,
-    patch: Patch<'_>,
-    rows: &[[u32; ROW_WORDS]],
-    table: &[Call],
-) -> io::Result<()> {
+// The calls of a table, on the score's first rows. The others stand behind them.
+fn list(rt: &impl Print, patch: Patch<'_>, count: usize, table: &[Call])
+    requires { count ≤ 8 }
+{
+    let rows = SCORE;
     let mut score = ArrayVec::new();
-    let _ = score.try_extend_from_slice(rows);
+    let _ = score.try_extend_from_slice(&rows[..count]);
     let mut words = Words {
-        rows: row_words(rows),
+        rows: row_words(&rows),
         out: [JUNK; SAMPLE_ROOM],
         aux: [JUNK; SAMPLE_ROOM],
         kept: [JUNK; KEPT_ROOM],
     };
     for call in table {
-        turn(rt, patch, *call, &mut score, &mut words)?;
+        turn(rt, patch, *call, &mut score, &mut words);
     }
-    Ok(())
 }
 
 // The lists on an instrument.
-fn play(rt: &impl Print, instrument: u32, bank: &[i16], map: &[u8]) -> io::Result<()> {
-    println!(rt; "instrument {instrument}")?;
+fn play(rt: &impl Print, instrument: u32, bank: &[i16], map: &[u8]) {
+    let _ = print!(rt; "instrument");
+    let _ = print!(rt; " {instrument}");
+    let _ = println!(rt);
     let settings = Settings {
         instrument,
         rate: RATE,
@@ -284,9 +288,8 @@ fn play(rt: &impl Print, instrument: u32, bank: &[i16], map: &[u8]) -> io::Resul
         bank,
         map,
     };
-    let rows = SCORE;
-    list(rt, patch, &rows, &LONG)?;
-    list(rt, patch, &rows[..2], &SHORT)
+    list(rt, patch, SCORE.len(), &LONG);
+    list(rt, patch, 2, &SHORT);
 }
 
 // ---- Refusals
@@ -354,7 +357,7 @@ fn patch_of<'a>(line: Line, bank: &'a [i16], map: &'a [u8]) -> Patch<'a> {
 }
 
 // A call that is handed what a line says, and its line.
-fn attempt(rt: &impl Print, call: Call, line: Line, bank: &[i16], map: &[u8]) -> io::Result<()> {
+fn attempt(rt: &impl Print, call: Call, line: Line, bank: &[i16], map: &[u8]) {
     let (_, _, count, [row_words, outs, auxs, keeps], _) = line;
     let mut rows = [0u32; 20485];
     rows[6] = 0x3f800001;
@@ -362,24 +365,26 @@ fn attempt(rt: &impl Print, call: Call, line: Line, bank: &[i16], map: &[u8]) ->
     let mut out = [JUNK; 24];
     let mut aux = [JUNK; 24];
     let mut kept = [JUNK; 52];
-    let mut take = Take {
-        out: &mut out[..outs.min(24)],
-        aux: &mut aux[..auxs.min(24)],
-        kept: &mut kept[..keeps.min(52)],
-    };
-    let lent = &mut rows[..row_words.min(20485)];
-    let answer = take::perform(patch_of(line, bank, map), lent, count, call, &mut take);
+    let answer = perform(
+        patch_of(line, bank, map),
+        &mut rows[..row_words.min(20485)],
+        count,
+        call,
+        &mut out[..outs.min(24)],
+        &mut aux[..auxs.min(24)],
+        &mut kept[..keeps.min(52)],
+    );
     let same = [
         ("rows", rows == old_rows),
         ("out", out == [JUNK; 24]),
         ("aux", aux == [JUNK; 24]),
         ("kept", kept == [JUNK; 52]),
     ];
-    say_line(rt, call, answer, same)
+    say_line(rt, call, answer, same);
 }
 
 // The four calls, with each line of the table, and with a bank and a map that have an element too many.
-fn attempts(rt: &impl Print) -> io::Result<()> {
+fn attempts(rt: &impl Print) {
     let bank = [0i16; BANK_LENGTH + 1];
     let map = [0u8; MAP_LENGTH + 1];
     let row = [0x42700000, 0, 0, 0, 0];
@@ -391,19 +396,18 @@ fn attempts(rt: &impl Print) -> io::Result<()> {
             Call::Insert(at, row),
             Call::Remove(at),
         ] {
-            attempt(rt, call, line, &bank, &map)?;
+            attempt(rt, call, line, &bank, &map);
         }
     }
-    Ok(())
 }
 
-fn main(rt: HostRuntime) -> io::Result<()> {
+fn main(rt: HostRuntime) {
     let mut bank = [0i16; BANK_LENGTH];
     let mut map = [0u8; MAP_LENGTH];
     fill_tables(1, &mut bank, &mut map);
-    play(&rt, 0, &bank, b"")?;
-    play(&rt, 1, &bank, b"")?;
-    play(&rt, 2, &bank, &map)?;
-    play(&rt, 3, &bank, b"")?;
-    attempts(&rt)
+    play(&rt, 0, &bank, b"");
+    play(&rt, 1, &bank, b"");
+    play(&rt, 2, &bank, &map);
+    play(&rt, 3, &bank, b"");
+    attempts(&rt);
 }

@@ -62,20 +62,32 @@ struct Draft<'a> {
 }
 
 impl<'a> Draft<'a> {
-    // Writes the file beside: all of it, or nothing is left there. One that an earlier run left is removed first.
-    fn write(rt: &impl Files, new: NewFile<'a>) -> io::Result<Draft<'a>> {
-        let name = as_text(new.name)?;
-        let Some(beside) = put_beside(name) else {
-            return Err(Error::new(ErrorKind::InvalidFilename, "a name that is too long"));
-        };
+    // The file beside, with nothing in it yet. One that an earlier run left is removed first. A name that is too long has none beside it: the
+    // system says so of the empty name.
+    fn create<F: Files>(rt: &F, name: &'a [u8]) -> io::Result<(Draft<'a>, F::File)> {
+        let name = as_text(name)?;
+        let beside = put_beside(name).unwrap_or_default();
         let draft = Draft { name, beside };
         draft.discard(rt);
-        let mut file = File::create_new(rt, draft.beside.as_str())?;
+        let file = File::create_new(rt, draft.beside.as_str())?;
+        Ok((draft, file))
+    }
+
+    // Writes the file beside: all of it, or a line says why not, and nothing is left there.
+    fn write(rt: &(impl Files + Eprint), new: NewFile<'a>) -> Option<Draft<'a>> {
+        let (draft, mut file) = match Draft::create(rt, new.name) {
+            Ok(created) => created,
+            Err(e) => {
+                fail(rt, new.name, e);
+                return None;
+            }
+        };
         if let Err(e) = fill(&mut file, new.bytes) {
+            fail(rt, new.name, e);
             draft.discard(rt);
-            return Err(e);
+            return None;
         }
-        Ok(draft)
+        Some(draft)
     }
 
     // Removes the file beside, if it is there.
@@ -94,16 +106,11 @@ impl<'a> Draft<'a> {
 
 // Writes two files; neither takes its place before both are written. What the system holds then, no contract can say.
 pub fn write_two(rt: &(impl Files + Eprint), first: NewFile<'_>, second: NewFile<'_>) {
-    let one = match Draft::write(rt, first) {
-        Ok(draft) => draft,
-        Err(e) => return fail(rt, first.name, e),
+    let Some(one) = Draft::write(rt, first) else {
+        return;
     };
-    let two = match Draft::write(rt, second) {
-        Ok(draft) => draft,
-        Err(e) => {
-            fail(rt, second.name, e);
-            return one.discard(rt);
-        }
+    let Some(two) = Draft::write(rt, second) else {
+        return one.discard(rt);
     };
     one.replace(rt);
     two.replace(rt);

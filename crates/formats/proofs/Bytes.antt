@@ -1,5 +1,5 @@
 -- The bytes of words one behind the other, and samples one by one.
-use Rattle.std.proofs.Common.{ℤ, pos, ◌≡◌, refl, ap, ◌∙◌, arith, ℕ, suc, ◌+◌, ◌*◌, ◌<◌, List, [], ◌∷◌, ◌++◌, length, take, get_or, length-append, take-suc, flat_map, append-nil, add-one}
+use Rattle.std.proofs.Common.{ℤ, pos, ◌≡◌, refl, sym, ap, ◌∙◌, arith, ℕ, suc, ◌+◌, ◌*◌, ◌<◌, List, [], ◌∷◌, ◌++◌, length, take, get_or, length-append, length-take-le, append_assoc, take-suc, flat_map, append-nil, add-one}
 use Rattle.std.proofs.Common.{set, FitsSigned, to_z, of_z, to_z-of_z}
 use Rattle.std.proofs.lemmas.List.Edits.{fill_by_more}
 use Rattle.std.proofs.lemmas.Grind.{flat_map-append}
@@ -26,6 +26,17 @@ low_more words i d h =
     ap (flat_map f) e
     ∙ flat_map-append f (take i words) (x ∷ [])
     ∙ ap (λ (y : List ℕ). flat_map f (take i words) ++ y) (flat_map-cons f x [] ∙ append-nil (f x))
+
+-- behind bytes
+pub low_behind : (before words now : List ℕ) (i d : ℕ) → i < length words → now ≡ before ++ low_first (take i words)
+    → now ++ to_le_bytes w32 (get_or words i d) ≡ before ++ low_first (take (i + 1) words)
+low_behind before words now i d h e =
+    let word = to_le_bytes w32 (get_or words i d) in
+    ap (λ (l : List ℕ). l ++ word) e ∙ append_assoc before (low_first (take i words)) word ∙ ap (λ (l : List ℕ). before ++ l) (sym (low_more words i d h))
+
+pub low_room : (before words now : List ℕ) (i : ℕ) → i < length words → now ≡ before ++ low_first (take i words) → length now ≡ length before + i * 4
+low_room before words now i h e =
+    ap length e ∙ length-append before (low_first (take i words)) ∙ ap (λ (n : ℕ). length before + n) (low_long (take i words) ∙ ap (λ (n : ℕ). n * 4) (length-take-le i words (omega arith)))
 
 -- samples that are each that of its two bytes
 unfoldable pub sample_at : List ℕ → ℕ → ℤ

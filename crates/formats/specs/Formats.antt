@@ -1,6 +1,12 @@
 -- Document 01, "The program `retake`": decimal numbers, and words and samples as bytes, "low byte first".
-use Rattle.std.specs.Prelude.{ℕ, List, [], ◌∷◌, ℤ, flat_map}
+use Rattle.std.specs.Prelude.{ℕ, ◌+◌, ◌≡◌, List, [], ◌∷◌, ℤ, length, flat_map}
 use Rattle.std.specs.Int.{w16, w32, cast_signed, to_le_bytes, from_le_bytes}
+use Rattle.lists.specs.Lists.{put}
+
+-- A text was put into lent bytes from byte `at` on, and where it ends.
+pub record Written (text before : List ℕ) (at : ℕ) (now : List ℕ) (end : ℕ) : Type 0 where
+  pub put_in : now ≡ put before at text
+  pub end_is : end ≡ at + length text
 
 -- A number is at most 18446744073709551615, which has 20 digits.
 abbrev pub most_digits : ℕ

@@ -19,13 +19,13 @@ unfoldable pub counts_line : ℕ → ℕ → ℕ → List ℕ
 counts_line row rendered held = number row space ++ (number rendered space ++ number held lf)
 
 -- "A refusal prints one line: `refused`, number and place, decimal, one space between."
-unfoldable pub refused_line : Refusal → List ℕ
-refused_line r = bytes "refused " ++ (number (number_of r) space ++ number (place_of r) lf)
+unfoldable pub refused_line : ℕ → ℕ → List ℕ
+refused_line n place = bytes "refused " ++ (number n space ++ number place lf)
 
 -- The line of an edit: "A refused edit prints its line in its turn".
 unfoldable pub edit_line : ℕ → Result Report Refusal → List ℕ
 edit_line row (Ok report) = counts_line row report.rows report.holds.held
-edit_line row (Err r) = refused_line r
+edit_line row (Err r) = refused_line (number_of r) (place_of r)
 
 -- The most bytes of a number with the byte after it, and of a line.
 abbrev pub most_number : ℕ

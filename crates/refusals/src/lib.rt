@@ -212,6 +212,7 @@ fn full(patch: Patch<'_>, rows: &[u32], count: usize, take: SharedTake<'_>, call
 
 // What a call refuses: the first refusal of the tests, in the table's order.
 // The parts of a `rows::Take` are lent to be written, so a take that is only read comes as its three parts.
+#[inline(always)]
 pub fn check(
     patch: Patch<'_>,
     rows: &[u32],

@@ -4,6 +4,7 @@ use Rattle.formats.specs.Formats.{samples_of}
 use Rattle.score.specs.Rows.{row_words}
 use Rattle.reader.specs.Reading.{edit_words}
 use Rattle.score.specs.declared.refusal.Refusal.{Refusal}
+use Rattle.score.specs.Numbers.{number_of, place_of}
 use Rattle.voice.specs.Voice.{kept_count}
 use Rattle.rows.specs.declared.Settings.{Settings}
 use Rattle.rows.specs.Rows.{Setup, setup, Take, lent}
@@ -65,9 +66,12 @@ pub record Output : Type 0 where
   pub printed : List ℕ
   pub files : List File
 
+abbrev pub output : List ℕ → List File → Output
+output printed files = record { printed = printed; files = files }
+
 -- "After a refusal of these three, nothing more is printed or written."
 abbrev pub turned : Refusal → Output
-turned r = record { printed = refused_line r; files = [] }
+turned r = record { printed = refused_line (number_of r) (place_of r); files = [] }
 
 -- A score of n rows rendered whole into a take, then edit after edit. "After the last edit it writes `out.f32` and `aux.f32`".
 unfoldable pub played : Setup → ℕ → List ℕ → Take → List Call → Output
@@ -88,7 +92,7 @@ program score edits bank = output_of (inputs_of score edits (length bank)) bank
 
 -- What the code hands over, as an output.
 abbrev pub output_in : Written → Output
-output_in w = record { printed = w.printed.bytes; files = files_in w.files }
+output_in w = record { printed = w.printed.items; files = files_in w.files }
 
 -- Demand 3 as far as the files: they hold the fresh rendering of the score with each accepted edit's row put in.
 abbrev pub FilesFresh : Type 0

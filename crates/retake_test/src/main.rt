@@ -1,17 +1,17 @@
 // Runs the program's library on the cases of standard input, and writes what each run prints, and the length and the sums of its files.
 // A case is a score's text up to `~`, then the edits' text up to the byte that says which bank goes with it: `=` a full one, `<` one that
-// is a byte short, `>` one that is a byte too long, `!` none. An LF after that byte belongs to no text.
-// The cases, in their order: document 01's example; no edits; refused edits among others; names in another order; rows that hold; 128 rows and
-// 32 edits; the score refused by 10 (three ways), 6, 11 (two), 9, 12, 11, 10 and 12 for its length; the edits by 10 (three), 11, 12, 11, 12
-// for their length; the bank (three); and which of two or three refusals comes first.
+// is a byte short, `>` one that is a byte too long, `!` none. An LF after that byte belongs to no text. Each of the five bytes ends a text of
+// either kind. Each word is a print of its own, and one that the system does not take is let go.
+// The cases, in their order: an LF before the score's text; document 01's example; no edits; refused edits among others; names in another
+// order; rows that hold; 128 rows and 32 edits; the score refused by 10 (three ways), 6, 11 (two), 9, 12, 11, 10 and 12 for its length; the
+// edits by 10 (three), 11, 12, 11, 12 for their length; the bank (three); which of two or three refusals comes first; a score's text that `=`
+// ends; and edits that `~` ends.
 #![tactic(auto)]
 
-use arrayvec::ArrayVec;
 use inputs::BANK_BYTES;
 use outputs::files::OutputFile;
 use retake_lib::{BANK_ROOM, FILE_ROOM};
-use std::io;
-use trial::{fill, sum_of};
+use trial::{fill, read_input, sum_of};
 
 const INPUT_ROOM: usize = 65536;
 
@@ -23,64 +23,65 @@ struct Case<'a> {
     bank: &'a [u8],
 }
 
-// As much of the bank as the last byte of a case asks for.
+// As much of the bank as the last byte of a case asks for, where it is one of the five.
 fn bank_for(how: u8, bank: &[u8; BANK_ROOM]) -> Option<&[u8]> {
     match how {
         b'=' => Some(&bank[..BANK_BYTES]),
         b'<' => Some(&bank[..BANK_BYTES - 1]),
         b'>' => Some(bank),
-        b'!' => Some(b""),
+        b'!' | b'~' => Some(b""),
         _ => None,
     }
 }
 
-// A case by its text, where that is whole.
-fn case_of<'a>(text: &'a [u8], bank: &'a [u8; BANK_ROOM]) -> Option<Case<'a>> {
-    let (how, texts) = text.split_last()?;
-    let bank = bank_for(*how, bank)?;
-    let middle = texts.iter().position(|b| *b == b'~')?;
-    Some(Case {
-        score: &texts[..middle],
-        edits: &texts[middle + 1..],
-        bank,
-    })
-}
-
 // The files' length and sums.
-fn show_files(rt: &impl Print, files: &[OutputFile<FILE_ROOM>; 2]) -> io::Result<()> {
+fn show_files(rt: &impl Print, files: &[OutputFile<FILE_ROOM>; 2]) {
     let [out, aux] = files;
-    println!(rt;
-        "files {} {} {}",
-        out.bytes.len(),
-        sum_of(&out.bytes),
-        sum_of(&aux.bytes)
-    )
-}
-
-fn run(rt: &impl Print, case: Case<'_>) -> io::Result<()> {
-    let written = retake_lib::run(case.score, case.edits, case.bank);
-    rt.print(written.printed.as_str())?;
-    if let Some(files) = &written.files {
-        show_files(rt, files)?;
+    let _ = print!(rt; "files");
+    let _ = print!(rt; " {}", out.bytes.len());
+    for file in [out, aux] {
+        let _ = print!(rt; " {}", sum_of(&file.bytes));
     }
-    println!(rt)
+    let _ = println!(rt);
 }
 
-// Each case in its turn.
-fn run_all(rt: &impl Print, input: &[u8], bank: &[u8; BANK_ROOM]) -> io::Result<()> {
-    for text in input.split_inclusive(|b| b"=<>!".contains(b)) {
-        let text = text.strip_prefix(b"\n").unwrap_or(text);
-        if let Some(case) = case_of(text, bank) {
-            run(rt, case)?;
+fn run(rt: &impl Print, case: Case<'_>) {
+    let written = retake_lib::run(case.score, case.edits, case.bank);
+    let _ = rt.write_all(&written.printed);
+    if let Some(files) = &written.files {
+        show_files(rt, files);
+    }
+    let _ = println!(rt);
+}
+
+// A score's text, without the LF behind the case before it.
+fn score_text(text: &[u8], first: bool) -> &[u8] {
+    if first {
+        return text;
+    }
+    text.strip_prefix(b"\n").unwrap_or(text)
+}
+
+// Each case in its turn: every second text is the edits of the one before it.
+fn run_all(rt: &impl Print, input: &[u8], bank: &[u8; BANK_ROOM]) {
+    let mut score: &[u8] = b"";
+    for (k, text) in input.split_inclusive(|b| b"~=<>!".contains(b)).enumerate() {
+        let Some((how, text)) = text.split_last() else {
+            return;
+        };
+        if k % 2 == 0 {
+            score = score_text(text, k == 0);
+        } else if let Some(bank) = bank_for(*how, bank) {
+            let edits = text;
+            run(rt, Case { score, edits, bank });
         }
     }
-    Ok(())
 }
 
-fn main(rt: HostRuntime) -> io::Result<()> {
-    let mut input = ArrayVec::<u8, INPUT_ROOM>::new();
-    io::copy(&mut rt.reader(), &mut input)?;
+fn main(rt: HostRuntime) {
+    let mut input = [0u8; INPUT_ROOM];
+    let size = read_input(&rt, &mut input);
     let mut bank = [0u8; BANK_ROOM];
     fill(1, &mut bank);
-    run_all(&rt, &input, &bank)
+    run_all(&rt, &input[..size], &bank);
 }

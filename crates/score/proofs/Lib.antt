@@ -4,3 +4,4 @@ pub mod Within
 pub mod RowsRight
 pub mod FirstBad
 pub mod Same
+pub mod Table

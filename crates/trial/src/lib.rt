@@ -1,8 +1,8 @@
-// What the programs that try out the library share: they fill banks and maps, lend words to calls, and tell one run of words or bytes from
-// another. No part of the product calls it.
+// What the programs that try out the library share: they read an input, fill banks and maps, lend words to calls, and tell one run of words or
+// bytes from another. No part of the product calls it.
 #![tactic(auto)]
 
-ghost use Rattle.std.specs.Prelude.{◌≡◌, ℕ, length, map};
+ghost use Rattle.std.specs.Prelude.{◌≡◌, ◌≤◌, ℕ, length, map};
 ghost use Rattle.rows.specs.Rows.{setup_by, lent};
 ghost use Rattle.take.specs.Take.{outcome, call_of};
 ghost use Rattle.trial.specs.Trial.{next_of, numbers, number_after, high_byte, sample_of, mixed_of, sum_of};
@@ -10,6 +10,24 @@ ghost use Rattle.trial.specs.Trial.{next_of, numbers, number_after, high_byte, s
 use refusals::Call;
 use rows::{Patch, Report, Take};
 use score::refusal::Refusal;
+use std::io::Read;
+
+// Reads standard input until the bytes are full, it ends or a read fails; how many bytes came.
+// A while, and not `io::copy`: that fails where more comes than there is room for, and here what came before a failure counts.
+pub fn read_input(rt: &impl Input, bytes: &mut [u8]) -> usize
+    ensures { result ≤ length bytes.new }
+{
+    let mut from = rt.reader();
+    let mut at = 0;
+    while at < bytes.len() {
+        let got = from.read(&mut bytes[at..]).unwrap_or(0);
+        if got == 0 {
+            return at;
+        }
+        at += got;
+    }
+    at
+}
 
 // The next number of a series that any language can make: s = 1664525 s + 1013904223 mod 2^32.
 fn next(s: u32) -> u32
@@ -93,8 +111,8 @@ impl<const ROWS: usize, const SAMPLES: usize, const KEPT: usize> Words<ROWS, SAM
     }
 }
 
-// A call over lent words that stand side by side.
-fn perform(
+// A call over lent words that stand side by side, by the function of its kind, which C and the program call.
+pub fn perform(
     patch: Patch<'_>,
     rows: &mut [u32],
     count: usize,
@@ -107,7 +125,12 @@ fn perform(
         ≡ call_of (setup_by patch.entry) count rows.old (lent out.old aux.old kept.old) call }
 {
     let mut take = Take { out, aux, kept };
-    take::perform(patch, rows, count, call, &mut take)
+    match call {
+        Call::Render => take::render(patch, rows, count, &mut take),
+        Call::Edit(position, row) => take::edit(patch, rows, count, position, row, &mut take),
+        Call::Insert(position, row) => take::insert(patch, rows, count, position, row, &mut take),
+        Call::Remove(position) => take::remove(patch, rows, count, position, &mut take),
+    }
 }
 
 // What a check number takes in as a word. No `Into<u32>`: its `converts` is a relation, and the sum's equation needs a function of the item.

@@ -62,7 +62,11 @@ pub fn float_of_u64(n: u64) -> f32
 pub fn float_of_i32(n: i32) -> f32
     ensures { result ≡ of_int binary32 n }
 {
-    nearest_i64_to_f32(n as i64)
+    if -16777216 < n && n < 16777216 {
+        n as f32
+    } else {
+        nearest_i64_to_f32(n as i64)
+    }
 }
 
 // x between a half and a half past `top`: a float whose whole part is that of x, held at `top`.

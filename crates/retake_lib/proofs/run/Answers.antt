@@ -7,9 +7,9 @@ use Rattle.retake_lib.proofs.run.Goals as goal
 pub play-requires-clause-bank_len : goal.play-requires-clause-bank_len
 play-requires-clause-bank_len c = (taken _ _ _ _ (sym c.in-Ok.ensures.value)).bank_long
 
-pub returns-in-Ok : goal.returns-in-Ok
+pub returns : goal.returns
 unfolding program output_of
-returns-in-Ok c = rw (sym c.read.ensures.value, c.in-Ok.is) c.play.ensures
+returns c = rw (sym c.read.ensures.value, c.in-Ok.is) c.play.ensures
 
 pub returns-in-Err : goal.returns-in-Err
 unfolding program output_of

@@ -1,11 +1,13 @@
--- `files::reading::read_all`: what came is what the reader lost; each turn leaves less room.
-use Rattle.std.proofs.Common.{◌-◌}
+-- `files::reading::read_all`: what came in so far lies within the bytes, and is what the reader lost.
+use Rattle.std.proofs.Common.{length, ◌-◌, ◌≤◌, ◌≡◌, take}
 use Rattle.std.specs.Io.KnownBytes.{Consumes}
-use Rattle.arrayvec.specs.ArrayVec.{array_vec_len}
 use Rattle.files.proofs.reading.read_all.Given as goal
 
-abbrev pub invariant-loop-file : goal.invariant-loop-file
-invariant-loop-file g l = Consumes (g.R.Read.remaining l.initial.file) (g.R.Read.remaining l.file) l.bytes.items
+abbrev pub invariant-loop-at : goal.invariant-loop-at
+invariant-loop-at g l =
+    (length l.bytes ≡ length l.initial.bytes)
+    × (l.at ≤ length l.bytes)
+    × Consumes (g.R.Read.remaining l.initial.file) (g.R.Read.remaining l.file) (take l.at l.bytes)
 
-abbrev pub decreases-loop-file : goal.decreases-loop-file
-decreases-loop-file g l = g.row.N - array_vec_len l.bytes
+abbrev pub decreases-loop-at : goal.decreases-loop-at
+decreases-loop-at g l = length l.initial.bytes - l.at

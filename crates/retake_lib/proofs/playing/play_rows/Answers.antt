@@ -8,8 +8,8 @@ use Rattle.retake_lib.proofs.playing.play_rows.Goals as goal
 
 pub returns : goal.returns
 returns c =
-    let n = c.args.given.count in
-    let most = c.requires.rows_most in
+    let n = c.args.given.now.count in
+    let most = c.requires.within.rows_most in
     let samples = part_of_zeros (most_rows * frames) (n * frames) (omega (arith, most)) in
     let kept = part_of_zeros (most_rows * kept_count) (n * kept_count) (omega (arith, most)) in
     played_blank _ _ _ _ samples samples kept c.play_take.ensures.output
