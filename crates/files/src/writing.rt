@@ -54,7 +54,7 @@ fn fill<W: Write + OpenFile>(file: &mut W, bytes: &[u8]) -> io::Result<()>
     file.sync_all()
 }
 
-// A file's name, and the name of the file beside it, which holds all that the file is to hold.
+// A file's name, and the name of the file beside it: once `write` has answered it, that one holds all that the file is to hold.
 #[derive(Drop)]
 struct Draft<'a> {
     name: &'a str,

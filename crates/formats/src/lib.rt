@@ -32,7 +32,7 @@ pub fn put_decimal(n: u64, text: &mut [u8], at: usize) -> usize
 }
 
 // Words as bytes, low byte first, behind bytes. That they fit is a clause, here and where files are made of them: a slice's length is in no type.
-pub fn put_words<const N: usize>(words: &[u32], bytes: &mut ArrayVec<u8, N>)
+pub fn push_words<const N: usize>(words: &[u32], bytes: &mut ArrayVec<u8, N>)
     requires { array_vec_len bytes.old + length words.now * 4 ≤ N }
     ensures { bytes.new.items ≡ bytes.old.items ++ low_first words.now }
 {

@@ -3,7 +3,7 @@ ghost use Rattle.std.specs.Prelude.{◌≡◌, ◌*◌, ◌≤◌, [], length, m
 ghost use Rattle.outputs.specs.Files.{file_in, words_file, files_of};
 
 use arrayvec::ArrayVec;
-use formats::put_words;
+use formats::push_words;
 
 // A file of at most N bytes: its name, and what it holds.
 #[derive(Clone, Drop)]
@@ -31,13 +31,13 @@ impl<const N: usize> OutputFile<N> {
     {
         self.name = name;
         self.bytes.clear();
-        put_words(words, &mut self.bytes);
+        push_words(words, &mut self.bytes);
     }
 }
 
 // Makes two files `out.f32` and `aux.f32` of a take.
 #[tactic(auto, unfolding(crate::specs::Files::files_of))]
-pub fn put_files<const N: usize>(out: &[u32], aux: &[u32], files: &mut [OutputFile<N>; 2])
+pub fn fill_files<const N: usize>(out: &[u32], aux: &[u32], files: &mut [OutputFile<N>; 2])
     requires out_in_bounds { length out.now * 4 ≤ N }
     requires aux_in_bounds { length aux.now * 4 ≤ N }
     ensures { map file_in files.new ≡ files_of out.now aux.now }

@@ -4,7 +4,7 @@
 // The input has words, low byte first: the number of scores, and for each score instrument, rate, frames, seed, rows n and calls m; n rows of
 // five words; m calls of seven words: the kind (0 edit, 1 insertion, 2 removal), the position, and the row's five words (zeros for a removal).
 // The bank and the map of a score come from its seed. What is lent has room for more rows than the score has.
-// A word that the input does not have is 0. A score that is too large is the last.
+// A word that the input does not have is 0. A score that is too large is not played, nor what stands behind it.
 // Each word is a print of its own, and one that the system does not take is let go.
 #![tactic(auto)]
 

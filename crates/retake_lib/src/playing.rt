@@ -14,7 +14,7 @@ use crate::{FILE_ROOM, PRINTED_ROOM, print};
 use arrayvec::ArrayVec;
 use inputs::{Inputs, MOST_ROWS};
 use oscillator::bank::BANK_LENGTH;
-use outputs::files::{OutputFile, put_files};
+use outputs::files::{OutputFile, fill_files};
 use outputs::lines::{MOST_LINE, put_answer, put_heading};
 use reader::EDIT_WORDS;
 use rows::{Patch, Settings, Take};
@@ -81,7 +81,7 @@ fn put_files_in(take: &Take<'_>, files: &mut [OutputFile<FILE_ROOM>; 2])
     requires aux_in_bounds { length take.now.aux.now * 4 ≤ FILE_ROOM }
     ensures { map file_in files.new ≡ files_of take.now.out.now take.now.aux.now }
 {
-    put_files(take.out, take.aux, files);
+    fill_files(take.out, take.aux, files);
 }
 
 // The rendering, the heading, the edits with their lines, and the files of what they left. The edits are words and a count, as the reader leaves

@@ -1,8 +1,8 @@
--- `formats::put_words`: the bytes so far are those of the words so far, behind the bytes that were there.
+-- `formats::push_words`: the bytes so far are those of the words so far, behind the bytes that were there.
 use Rattle.std.proofs.Common.{rules, append-nil}
 use Rattle.formats.specs.Formats.{low_first}
 use Rattle.formats.proofs.Bytes.{low_behind, low_room}
-use Rattle.formats.proofs.put_words.Goals as goal
+use Rattle.formats.proofs.push_words.Goals as goal
 
 pub loop-word-init : goal.loop-word-init
 unfolding low_first
