@@ -12,7 +12,7 @@ use rows::{Patch, Report, Settings};
 use score::refusal::Refusal;
 use score::rows::ROW_WORDS;
 use terrain::MAP_LENGTH;
-use trial::{fill_tables, perform};
+use trial::{fill_tables, perform, say_two};
 use voice::KEPT_WORDS;
 
 // ---- Calls
@@ -30,16 +30,13 @@ fn say_line(
     let name = call.name();
     let _ = print!(rt; "{name}");
     match answer {
-        Ok(report) => {
-            let _ = print!(rt; " done");
-            let _ = print!(rt; " {}", report.rows);
-            let _ = print!(rt; " {}", report.holds.held);
-        }
-        Err(refusal) => {
-            let _ = print!(rt; " refused");
-            let _ = print!(rt; " {}", refusal.number());
-            let _ = print!(rt; " {}", refusal.place());
-        }
+        Ok(report) => say_two(rt, b" done", report.rows as u64, report.holds.held as u64),
+        Err(refusal) => say_two(
+            rt,
+            b" refused",
+            refusal.number() as u64,
+            refusal.place() as u64,
+        ),
     }
     for (name, right) in right {
         if right {

@@ -17,7 +17,7 @@ use score::refusal::Refusal;
 use score::rows::ROW_WORDS;
 use std::slice;
 use terrain::MAP_LENGTH;
-use trial::{fill_tables, read_input, sum_of};
+use trial::{fill_tables, read_input, say_two, sum_of};
 use utils::engine::MOST_FRAMES;
 use voice::{KEPT_WORDS, TERRAIN_WITH_MAP};
 
@@ -148,11 +148,12 @@ fn say_answer(rt: &impl Print, answer: Result<Report, Refusal>) {
                 let _ = print!(rt; " {n}");
             }
         }
-        Err(refusal) => {
-            let _ = print!(rt; " refused");
-            let _ = print!(rt; " {}", refusal.number());
-            let _ = print!(rt; " {}", refusal.place());
-        }
+        Err(refusal) => say_two(
+            rt,
+            b" refused",
+            refusal.number() as u64,
+            refusal.place() as u64,
+        ),
     }
 }
 

@@ -66,6 +66,7 @@ pub record Output : Type 0 where
   pub printed : List ℕ
   pub files : List File
 
+-- The same by its two parts.
 abbrev pub output : List ℕ → List File → Output
 output printed files = record { printed = printed; files = files }
 

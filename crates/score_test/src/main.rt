@@ -9,7 +9,7 @@ ghost use Rattle.std.specs.Prelude.{◌≤◌};
 
 use arrayvec::ArrayVec;
 use score::refusal::Refusal;
-use trial::read_input;
+use trial::{read_input, say_two};
 
 // What stands in lent words before a call.
 const FILL: u32 = 0xaaaaaaaa;
@@ -23,9 +23,12 @@ const LONG_TEXT: usize = 36 + 45 * 4098;
 
 // Writes a refusal's two numbers.
 fn say_refusal(rt: &impl Print, refusal: Refusal) {
-    let _ = print!(rt; "refused");
-    let _ = print!(rt; " {}", refusal.number());
-    let _ = print!(rt; " {}", refusal.place());
+    say_two(
+        rt,
+        b"refused",
+        refusal.number() as u64,
+        refusal.place() as u64,
+    );
 }
 
 // The answer's line; after a success each lent word, after a refusal whether they all are as they were.

@@ -1,5 +1,5 @@
-// What the programs that try out the library share: they read an input, fill banks and maps, lend words to calls, and tell one run of words or
-// bytes from another. No part of the product calls it.
+// What the programs that try out the library share: they print, read an input, fill banks and maps, lend words to calls, and tell one run of
+// words or bytes from another. No part of the product calls it.
 #![tactic(auto)]
 
 ghost use Rattle.std.specs.Prelude.{◌≡◌, ◌≤◌, ℕ, length, map};
@@ -11,6 +11,13 @@ use refusals::Call;
 use rows::{Patch, Report, Take};
 use score::refusal::Refusal;
 use std::io::Read;
+
+// Writes a text and two numbers, each with a space before it. What the system does not take is let go.
+pub fn say_two(rt: &impl Print, text: &[u8], first: u64, second: u64) {
+    let _ = rt.write_all(text);
+    let _ = print!(rt; " {first}");
+    let _ = print!(rt; " {second}");
+}
 
 // Reads standard input until the bytes are full, it ends or a read fails; how many bytes came.
 // A while, and not `io::copy`: that fails where more comes than there is room for, and here what came before a failure counts.
