@@ -1,1 +1,2 @@
--- What the proofs of this crate share: nothing.
+-- What the proofs of this crate share: that its lines are text.
+pub mod Texts

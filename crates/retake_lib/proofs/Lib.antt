@@ -3,3 +3,4 @@ pub mod Editing
 pub mod Outputs
 pub mod Exact
 pub mod Files
+pub mod Texts

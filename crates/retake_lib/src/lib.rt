@@ -1,7 +1,7 @@
 // The program `retake`: what it prints, and which files it writes, by the bytes of the three files that it reads.
 #![tactic(auto)]
 
-ghost use Rattle.std.specs.Prelude.{◌≡◌, ◌+◌, ◌≤◌, ◌++◌, length, take};
+ghost use Rattle.std.specs.Prelude.{◌≡◌, ◌+◌, ◌≤◌, ◌++◌, length, take, IsUtf8};
 ghost use Rattle.arrayvec.specs.ArrayVec.{array_vec_len};
 ghost use Rattle.inputs.specs.Inputs.{most_text, bytes_of_bank};
 ghost use Rattle.retake_lib.specs.Program.{program, output_in, turned};
@@ -58,12 +58,13 @@ fn turned(refusal: Refusal) -> Written
     }
 }
 
-// The program: by the bytes of `score.txt`, `edits.txt` and `bank.bin`, what is printed, and the files that are written. Three slices and no struct:
-// each is handed on once, to a test of its own. Lines and files are put in their places, and by value only at the end: handed on so from call to
-// call, and where this is inlined, they are copied each time.
+// The program: by the bytes of `score.txt`, `edits.txt` and `bank.bin`, what is printed, which is text, and the files that are written.
+// Three slices and no struct: each is handed on once, to a test of its own. Lines and files are put in their places, and by value only at the
+// end: handed on so from call to call, and where this is inlined, they are copied each time.
 #[inline(never)]
 pub fn run(score: &[u8], edits: &[u8], bank: &[u8]) -> Written
-    ensures { output_in result ≡ program score.now edits.now bank.now }
+    ensures output { output_in result ≡ program score.now edits.now bank.now }
+    ensures text { IsUtf8 result.printed.items }
 {
     let given = match inputs::read(score, edits, bank.len()) {
         Ok(given) => given,
