@@ -1,2 +1,2 @@
--- What the proofs of this crate share: that its lines are text.
+-- What the crates above cite: that the lines are text.
 pub mod Texts

@@ -1,46 +1,28 @@
--- The lines that the program prints are text: they are UTF-8.
-use Rattle.std.proofs.Common.{◌≡◌, refl, arith, ℕ, zero, suc, ◌/◌, ◌%◌, ◌<◌, Bool, true, false, List, [], ◌∷◌, if◌then◌else◌, ◌==◌, decimal, IsAscii, IsUtf8, Result, Ok, Err}
+-- The lines that the program prints are text: each of their bytes is ASCII, so they are UTF-8.
+use Rattle.std.proofs.Common.{rules, arith, ℕ, zero, suc, ◌/◌, ◌%◌, ◌<◌, false, List, [], ◌∷◌, decimal, IsAscii, IsUtf8, Result, Ok, Err}
 use Rattle.std.proofs.lemmas.Str.{IsUtf8-from_ascii, IsUtf8-append, IsAscii-append}
-use Rattle.std.proofs.lemmas.Str.Ascii.{IsAscii-nil, IsAscii-cons, IsAscii-from_all}
-use Rattle.std.proofs.lemmas.List.Sums.{AllPass-from_list_all}
-use Rattle.std.proofs.lemmas.List.Elements.{All-weaker}
-use Rattle.std.proofs.lemmas.Bool.{ltb-true}
-use Rattle.std.specs.Char.{is_ascii}
-use Rattle.std.specs.List.{list_all}
+use Rattle.std.proofs.lemmas.Str.Ascii.{IsAscii-nil}
 use Rattle.std.specs.Fmt.{digits, digits_onto, digit_glyph}
-use Rattle.text.specs.Text.{bytes, lf, space}
+use Rattle.text.specs.Text.{bytes}
 use Rattle.rows.specs.declared.Report.{Report}
 use Rattle.score.specs.declared.refusal.Refusal.{Refusal}
 use Rattle.score.specs.Numbers.{number_of, place_of}
 use Rattle.outputs.specs.Lines.{number, heading, counts_line, refused_line, edit_line}
 
--- ---- a literal and a number
-
-literal_text : (bs : List ℕ) → list_all is_ascii bs ≡ true → IsUtf8 bs
-literal_text bs e = IsUtf8-from_ascii bs (IsAscii-from_all bs (All-weaker _ _ (λ c h. ltb-true c 128 h) bs (AllPass-from_list_all is_ascii bs e)))
-
-either : (b : Bool) (xs ys : List ℕ) → IsAscii xs → IsAscii ys → IsAscii (if b then xs else ys)
-either true xs ys h k = h
-either false xs ys h k = k
-
-glyph : (d : ℕ) → d < 10 → digit_glyph false d < 128
-glyph d h = grind arith
+-- ---- a number of any size
 
 digits_ascii : (k n : ℕ) (behind : List ℕ) → IsAscii behind → IsAscii (digits_onto k 10 false n behind)
 digits_ascii zero n behind h = h
-digits_ascii (suc k) n behind h =
-    let more = IsAscii-cons (digit_glyph false (n % 10)) behind (glyph (n % 10) (omega arith)) h in
-    either (n / 10 == 0) _ _ more (digits_ascii k (n / 10) (digit_glyph false (n % 10) ∷ behind) more)
+digits_ascii (suc k) n behind h = grind (arith, digits_ascii k (n / 10) (digit_glyph false (n % 10) ∷ behind))
 
 number_text : (n end : ℕ) → end < 128 → IsUtf8 (number n end)
 unfolding digits
-number_text n end h = IsUtf8-from_ascii (number n end)
-    (IsAscii-append (decimal n) (end ∷ []) (digits_ascii 64 n [] IsAscii-nil) (IsAscii-cons end [] h IsAscii-nil))
+number_text n end h = IsUtf8-from_ascii (number n end) (IsAscii-append (decimal n) (end ∷ []) (digits_ascii 64 n [] IsAscii-nil) (search rules))
 
 -- ---- the lines
 
 pub heading_text : IsUtf8 heading
-heading_text = literal_text heading refl
+heading_text = search rules
 
 counts_text : (row rendered held : ℕ) → IsUtf8 (counts_line row rendered held)
 unfolding counts_line
@@ -49,7 +31,7 @@ counts_text row rendered held = IsUtf8-append _ _ (number_text row _ (omega arit
 
 pub refused_text : (n place : ℕ) → IsUtf8 (refused_line n place)
 unfolding refused_line
-refused_text n place = IsUtf8-append (bytes "refused ") _ (literal_text (bytes "refused ") refl)
+refused_text n place = IsUtf8-append (bytes "refused ") _ (search rules)
     (IsUtf8-append _ _ (number_text n _ (omega arith)) (number_text place _ (omega arith)))
 
 pub edit_text : (row : ℕ) (answer : Result Report Refusal) → IsUtf8 (edit_line row answer)
