@@ -1,5 +1,5 @@
 -- What the program prints is text: each of its lines is (outputs · Texts).
-use Rattle.std.proofs.Common.{ℕ, List, [], ◌∷◌, Result, Ok, Err, IsUtf8}
+use Rattle.std.proofs.Common.{◌≡◌, sym, subst, ℕ, List, [], ◌∷◌, Result, Ok, Err, IsUtf8}
 use Rattle.std.proofs.lemmas.Str.{IsUtf8-nil, IsUtf8-append}
 use Rattle.score.specs.declared.refusal.Refusal.{Refusal}
 use Rattle.rows.specs.Rows.{Setup}
@@ -7,7 +7,7 @@ use Rattle.refusals.specs.declared.Call.{Call}
 use Rattle.retakes.specs.Retakes.{Reel, next}
 use Rattle.inputs.specs.declared.Inputs.{Inputs}
 use Rattle.outputs.proofs.Texts.{heading_text, refused_text, edit_text}
-use Rattle.retake_lib.specs.Program.{edit_lines, played, output_of, program}
+use Rattle.retake_lib.specs.Program.{edit_lines, Output, played, output_of, program}
 
 lines_text : (s : Setup) (o : Reel) (es : List Call) → IsUtf8 (edit_lines s o es)
 unfolding edit_lines
@@ -22,3 +22,7 @@ output_text (Err r) bank = refused_text _ _
 pub program_text : (score edits bank : List ℕ) → IsUtf8 (program score edits bank).printed
 unfolding program
 program_text score edits bank = output_text _ bank
+
+-- so is what a run answers that is the program's
+pub printed_text : (o : Output) (score edits bank : List ℕ) → o ≡ program score edits bank → IsUtf8 o.printed
+printed_text o score edits bank e = subst (λ (p : Output). IsUtf8 p.printed) (sym e) (program_text score edits bank)
